@@ -10,9 +10,8 @@ use borrow.Author.Tests.{eqb-false, ltb-false}
 use Rattle.label.specs.Limits.{equality}
 use Rattle.label.specs.Labels.{predicateOf, placeAt, unpacked, termsOf}
 use Rattle.diagram.specs.Sizes.{spaceRows, mostPairs}
-use Rattle.diagram.specs.Diagram.{Diagram, leaf, branch}
+use Rattle.diagram.specs.Diagram.{Diagram, leaf, branch, EveryLabel}
 use Rattle.apply.specs.Walk.{size}
-use Rattle.rename.specs.Relabelling.{Labels}
 use Rattle.words.specs.Words.{IsName}
 use Rattle.words.specs.ByteLaws.{letter-range}
 use Rattle.answers.specs.Digits.{digits}
@@ -88,7 +87,7 @@ atom-bytes ar n l declared h = go (eqb (predicateOf l) equality) refl
         omega arith
 
 -- a test takes ten bytes at least, a leaf one, and a high leaf two more
-form-bytes : (ar : List ℕ) (n : Tables) (d : Diagram) → Declared n → Labels (λ l. predicateOf l ≤ length (n .predicates)) d
+form-bytes : (ar : List ℕ) (n : Tables) (d : Diagram) → Declared n → EveryLabel (λ l. predicateOf l ≤ length (n .predicates)) d
     → 11 * size d + 2 * length (highLeaves d) < formLength ar n d
 unfolding formLength size highLeaves
 form-bytes ar n (leaf v) declared h = go (ltb v threeDigits) refl

@@ -46,7 +46,7 @@ finished Shared ar d = d
 unfoldable pub combination : Operation → Names → List ℕ → Diagram → Diagram → Diagram
 combination op names ar a b = finished names ar (apply (operate op) (leftOperand names ar a b) (rightOperand names ar a b))
 
--- more than 64 variables of a kind, those of both operands together when apart; shared names are 64 at most (`variables-few`)
+-- more than 64 variables of a kind, those of both operands together when apart; shared names are 64 at most (rename `variables-few`)
 abbrev pub tooMany : Names → List ℕ → Diagram → Diagram → Bool
 tooMany Apart ar a b =
     ltb variableCount (length (variables ar a) + length (variables ar b)) || ltb minimumCount (length (minimums ar a) + length (minimums ar b))

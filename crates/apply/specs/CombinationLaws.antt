@@ -2,11 +2,11 @@
 use mathlib.Core.Path.{_≡_, refl}
 use mathlib.Core.Bool.{Bool, true, false, cond, _||_}
 use mathlib.Core.List.{List, [], _++_}
-use Prim.Native.Nat.{ℕ, _+_, _≤_, _<_}
+use Prim.Native.Nat.{ℕ, _+_, _≤_}
 use native.Mathlib.Omega.{arith}
 use lib.ListN.{length, drop}
 use lib.Dec.{ltb}
-use borrow.Author.Tests.{lt-ltb, le-ltb, ltb-false}
+use borrow.Author.Tests.{le-ltb, ltb-false}
 use Rattle.basics.specs.Members.{NoDup}
 use Rattle.refusal.specs.declared.Refusal.{Refusal}
 use Rattle.refusal.specs.declared.Refusal.the-variants.{Listing, Buffer, Variables, Pairs, Value, Space}
@@ -81,36 +81,6 @@ module _ (op : Operation) (names : Names) (ar : List ℕ) (a b : Diagram) where
   pub diagrams-variables : tooMany names ar a b ≡ true → diagramAnswer op names ar a b ≡ Refused Variables
   unfolding diagramAnswer
   diagrams-variables e = rw e
-
-  pub diagrams-pairs : tooMany names ar a b ≡ false → mostPairs < pairCount op (leftOperand names ar a b) (rightOperand names ar a b)
-      → diagramAnswer op names ar a b ≡ Refused Pairs
-  unfolding diagramAnswer
-  diagrams-pairs e h = rw (e, lt-ltb mostPairs (pairCount op (leftOperand names ar a b) (rightOperand names ar a b)) h)
-
-  pub diagrams-value : tooMany names ar a b ≡ false → pairCount op (leftOperand names ar a b) (rightOperand names ar a b) ≤ mostPairs
-      → overflows (operate op) (pairs op (leftOperand names ar a b) (rightOperand names ar a b)) ≡ true → diagramAnswer op names ar a b ≡ Refused Value
-  unfolding diagramAnswer
-  diagrams-value e h o = rw (e, le-ltb mostPairs (pairCount op (leftOperand names ar a b) (rightOperand names ar a b)) h, o)
-
-  pub diagrams-space : tooMany names ar a b ≡ false → pairCount op (leftOperand names ar a b) (rightOperand names ar a b) ≤ mostPairs
-      → overflows (operate op) (pairs op (leftOperand names ar a b) (rightOperand names ar a b)) ≡ false → spaceRows < rowsFormed op names ar a b
-      → diagramAnswer op names ar a b ≡ Refused Space
-  unfolding diagramAnswer
-  diagrams-space e h o s =
-      rw (e, le-ltb mostPairs (pairCount op (leftOperand names ar a b) (rightOperand names ar a b)) h, o, lt-ltb spaceRows (rowsFormed op names ar a b) s)
-
-  pub diagrams-rows : tooMany names ar a b ≡ false → pairCount op (leftOperand names ar a b) (rightOperand names ar a b) ≤ mostPairs
-      → overflows (operate op) (pairs op (leftOperand names ar a b) (rightOperand names ar a b)) ≡ false → rowsFormed op names ar a b ≤ spaceRows
-      → mostRows < length (rows (combination op names ar a b)) → diagramAnswer op names ar a b ≡ Refused Space
-  unfolding diagramAnswer
-  diagrams-rows e h o s n =
-      rw (
-        e,
-        le-ltb mostPairs (pairCount op (leftOperand names ar a b) (rightOperand names ar a b)) h,
-        o,
-        le-ltb spaceRows (rowsFormed op names ar a b) s,
-        lt-ltb mostRows (length (rows (combination op names ar a b))) n,
-      )
 
 -- an accepted combination: no check refuses it, and the answer has its rows and its pairs
 pub record Accepted (op : Operation) (names : Names) (ar : List ℕ) (a b : Diagram) (n m : ℕ) : Type 0 where

@@ -1,22 +1,20 @@
--- Labels, values and variables of a combination: a good one of good operands.
+-- Labels, values and terms of a combination: a good one of good operands.
 use mathlib.Core.Path.{_≡_, refl, sym, _∙_}
-use mathlib.Core.Bool.{Bool, true, false, _||_}
-use mathlib.Core.List.{List, _∷_}
-use Prim.Native.Nat.{ℕ, zero, suc, _≤_}
-use native.Mathlib.Omega.{arith}
+use mathlib.Core.Bool.{true, false, _||_}
+use mathlib.Core.List.{List}
+use Prim.Native.Nat.{ℕ, _≤_}
 use lib.ListN.{length}
-use lib.Dec.{eqb, ltb}
+use lib.Dec.{eqb}
 use borrow.Author.Tests.{le-ltb, ltb-false}
-use Rattle.basics.specs.Tests.{Flag, isTrue, isFalse, flag, Either, one, other}
+use Rattle.basics.specs.Tests.{Flag, isTrue, isFalse, flag, neither}
 use Rattle.basics.specs.Members.{mem, clash}
-use Rattle.label.specs.Limits.{firstVariable, variableCount}
 use Rattle.label.specs.Labels.{isLabel, termsOf, unpacked}
 use Rattle.diagram.specs.Sizes.{mostRows, highestValue}
-use Rattle.diagram.specs.Diagram.{Diagram, leaf, branch, same}
+use Rattle.diagram.specs.Diagram.{Diagram, leaf, branch, same, EveryLabel}
 use Rattle.diagram.specs.DiagramLaws.{same-eq}
 use Rattle.diagram.specs.Rows.{rows}
 use Rattle.diagram.specs.Listing.{Fine, Good}
-use Rattle.diagram.specs.Variables.{occurs, pickList, occurring, variables}
+use Rattle.diagram.specs.Variables.{occurs}
 use Rattle.apply.specs.declared.Operation.{Operation}
 use Rattle.apply.specs.Apply.{node, apply}
 use Rattle.apply.specs.Pairs.{ends, pairs, tooHigh, overflows}
@@ -26,19 +24,6 @@ use Rattle.apply.specs.ApplyLaws.{node-same, node-differ, apply-leaves, 
 use Rattle.apply.specs.Course.{Course, stops, descends, course, ending, inner-calm}
 use Rattle.apply.specs.PairLaws.{pairs-where, Where, root, by-true, by-false, pairs-alone}
 use Rattle.apply.specs.OverflowLaws.{Overflow, overflow-found, overflow-made, calm-root, calm-true, calm-false}
-
-or-false-one : (a b : Bool) → (a || b) ≡ false → a ≡ false
-or-false-one true b e = e
-or-false-one false b e = refl
-
-or-false-other : (a b : Bool) → (a || b) ≡ false → b ≡ false
-or-false-other true b e = clash refl e
-or-false-other false b e = e
-
--- P holds of every label
-abbrev pub EveryLabel : (ℕ → Type 0) → Diagram → Type 0
-EveryLabel P (leaf v) = Unit {0}
-EveryLabel P (branch l t f) = P l × EveryLabel P t × EveryLabel P f
 
 pub every-node : (P : ℕ → Type 0) (l : ℕ) (t f : Diagram) → P l → EveryLabel P t → EveryLabel P f → EveryLabel P (node l t f)
 every-node P l t f h x y = go (flag (same t f))
@@ -73,11 +58,10 @@ every-apply op P a b x y = every-walk op P (walk a b) x y
 pub every-quiet : (ar : List ℕ) (t : ℕ) (d : Diagram) → occurs ar t d ≡ false → EveryLabel (λ l. mem eqb t (termsOf ar (unpacked l)) ≡ false) d
 unfolding occurs
 every-quiet ar t (leaf v) h = tt
-every-quiet ar t (branch l x y) h = (
-  or-false-one (mem eqb t (termsOf ar (unpacked l))) (occurs ar t x || occurs ar t y) h,
-  every-quiet ar t x (or-false-one (occurs ar t x) (occurs ar t y) (or-false-other (mem eqb t (termsOf ar (unpacked l))) (occurs ar t x || occurs ar t y) h)),
-  every-quiet ar t y (or-false-other (occurs ar t x) (occurs ar t y) (or-false-other (mem eqb t (termsOf ar (unpacked l))) (occurs ar t x || occurs ar t y) h)),
-)
+every-quiet ar t (branch l x y) h =
+    let own = neither (mem eqb t (termsOf ar (unpacked l))) (occurs ar t x || occurs ar t y) h in
+    let below = neither (occurs ar t x) (occurs ar t y) (own .1) in
+    (own .0, every-quiet ar t x (below .0), every-quiet ar t y (below .1))
 
 pub quiet-every : (ar : List ℕ) (t : ℕ) (d : Diagram) → EveryLabel (λ l. mem eqb t (termsOf ar (unpacked l)) ≡ false) d → occurs ar t d ≡ false
 unfolding occurs
@@ -87,28 +71,6 @@ quiet-every ar t (branch l x y) h = rw (h .0, quiet-every ar t x (h .1), quiet-e
 pub quiet-apply : (op : ℕ → ℕ → ℕ) (ar : List ℕ) (t : ℕ) (a b : Diagram) → occurs ar t a ≡ false → occurs ar t b ≡ false → occurs ar t (apply op a b) ≡ false
 quiet-apply op ar t a b x y =
     quiet-every ar t (apply op a b) (every-apply op (λ l. mem eqb t (termsOf ar (unpacked l)) ≡ false) a b (every-quiet ar t a x) (every-quiet ar t b y))
-
-pub occurs-apply : (op : ℕ → ℕ → ℕ) (ar : List ℕ) (t : ℕ) (a b : Diagram) → occurs ar t (apply op a b) ≡ true → Either (occurs ar t a) (occurs ar t b)
-occurs-apply op ar t a b h = go (flag (occurs ar t a)) (flag (occurs ar t b))
-  where
-    go : Flag (occurs ar t a) → Flag (occurs ar t b) → Either (occurs ar t a) (occurs ar t b)
-    go (isTrue e) d = one e
-    go (isFalse e) (isTrue d) = other d
-    go (isFalse e) (isFalse d) = clash h (quiet-apply op ar t a b e d)
-
--- a diagram has at most 64 variables
-pick-length : (b : Bool) (t : ℕ) (xs : List ℕ) → length (pickList b (t ∷ xs) xs) ≤ suc (length xs)
-pick-length true t xs = omega arith
-pick-length false t xs = omega arith
-
-occurring-length : (ar : List ℕ) (d : Diagram) (t n : ℕ) → length (occurring ar d t n) ≤ n
-unfolding occurring
-occurring-length ar d t zero = omega arith
-occurring-length ar d t (suc n) = omega (arith, pick-length (occurs ar t d) t (occurring ar d (suc t) n), occurring-length ar d (suc t) n)
-
-pub variables-few : (ar : List ℕ) (d : Diagram) → length (variables ar d) ≤ variableCount
-unfolding variables
-variables-few ar d = occurring-length ar d firstVariable variableCount
 
 -- ranges: labels are the operands', values are the leaf pairs' results
 pub fine-every : (ar : List ℕ) (d : Diagram) → Fine ar d → EveryLabel (λ l. isLabel ar l ≡ true) d

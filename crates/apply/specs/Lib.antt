@@ -18,7 +18,6 @@
 --   add, formed == one row more unless it is there; the rows that the pairs form, behind rows that are there
 --   operandRows, rowsFormed == an apart call forms the renamed operands' rows; how many rows a call forms
 --   tooMany == more than 64 variables of a kind, both operands' together when apart
---   EveryLabel == a property of every label of a diagram
 --
 -- Definitions: the call
 --   Combined == rows and pairs, or the refusal

@@ -1,5 +1,5 @@
 -- The pairs are the least closed set that holds both roots; the laws of overflow.
-use mathlib.Core.Path.{_≡_, refl, ap, sym}
+use mathlib.Core.Path.{_≡_, refl, sym}
 use mathlib.Core.Bool.{Bool, true, false, cond}
 use mathlib.Core.List.{List, [], _∷_, _++_}
 use Prim.Native.Nat.{ℕ}
@@ -14,7 +14,7 @@ use Rattle.apply.specs.Snoc.{append-cases, append-one, append-other}
 use Rattle.apply.specs.declared.Operation.{Operation}
 use Rattle.apply.specs.Pairs.{Pair, samePair, ends, descend, successor, ClosedPairs, LeastPairs, pairs, pairCount}
 use Rattle.apply.specs.Walk.{Below, Step, left, right, both}
-use Rattle.apply.specs.Course.{Course, stops, descends, course, leaves-end}
+use Rattle.apply.specs.Course.{Course, stops, descends, course}
 
 pub pair-test : IsTest samePair
 pair-test = record {

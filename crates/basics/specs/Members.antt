@@ -2,7 +2,7 @@
 use mathlib.Core.Path.{_≡_, refl, ap, sym, _∙_}
 use mathlib.Core.Bool.{Bool, true, false, _||_, true≢false, or-true, or-assoc}
 use mathlib.Core.List.{List, [], _∷_, _++_}
-use Prim.Native.Nat.{ℕ, zero, suc, _+_, _≤_, _<_, zero-le, suc-le-suc}
+use Prim.Native.Nat.{suc, _+_, _≤_, zero-le}
 use native.Mathlib.Omega.{arith}
 use lib.ListN.{length}
 use Rattle.basics.specs.Tests.{Flag, isTrue, isFalse, flag}
@@ -116,6 +116,3 @@ module _ {A : Type 0} (eq : A → A → Bool) (law : IsTest eq) where
       let a = nodup-le m (nub eq l) d (λ x e. mem-nub x l ∙ w x e) in
       let b = nodup-le (nub eq l) m (nodup-nub l) (λ x e. v x (sym (mem-nub x l) ∙ e)) in
       omega arith
-
-  pub nub-count : (l m : List A) → Within eq l m → Within eq m l → length (nub eq m) ≡ length (nub eq l)
-  nub-count l m v w = nodup-count l (nub eq m) (nodup-nub m) (λ x e. mem-nub x m ∙ v x e) (λ x e. w x (sym (mem-nub x m) ∙ e))

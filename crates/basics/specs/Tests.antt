@@ -1,10 +1,10 @@
 -- The order of two numbers, with its evidence; and Bool helpers.
-use mathlib.Core.Path.{_≡_, refl, sym, subst, _∙_}
-use mathlib.Core.Bool.{Bool, true, false, _&&_, _||_, cond, true≢false}
-use Prim.Native.Nat.{ℕ, _≤_, _<_}
+use mathlib.Core.Path.{_≡_, refl, sym}
+use mathlib.Core.Bool.{Bool, true, false, not, _&&_, _||_, cond, true≢false}
+use Prim.Native.Nat.{ℕ, _<_}
 use native.Mathlib.Omega.{arith}
-use lib.Dec.{T, ltb, eqb}
-use borrow.Author.Tests.{ltb-true, ltb-false, lt-ltb, le-ltb}
+use lib.Dec.{ltb}
+use borrow.Author.Tests.{ltb-true, ltb-false}
 
 -- m < n, m ≡ n or n < m
 pub data Cmp (m n : ℕ) : Type 0 where
@@ -58,3 +58,12 @@ or-one false b e = absurd (true≢false (sym e))
 pub or-other : (a b : Bool) → b ≡ true → (a || b) ≡ true
 or-other true b e = refl
 or-other false b e = e
+
+-- of two tests neither holds; the first holds and the second does not
+pub neither : (a b : Bool) → (a || b) ≡ false → (a ≡ false) × (b ≡ false)
+neither true b e = absurd (true≢false e)
+neither false b e = (refl, e)
+
+pub only-first : (a b : Bool) → (not a || b) ≡ false → (a ≡ true) × (b ≡ false)
+only-first true b e = (refl, e)
+only-first false b e = absurd (true≢false e)

@@ -2,12 +2,12 @@
 use mathlib.Core.Path.{_≡_, refl, sym, ap, _∙_, subst}
 use mathlib.Core.Logic.{_⊎_, inl, inr}
 use mathlib.Core.List.{List, [], _∷_, map, List·Memᴰ, List·Memᴰ·head, List·Memᴰ·tail}
-use Prim.Native.Nat.{ℕ, zero, suc, _+_, _*_, _^_, _≤_, _<_, max}
+use Prim.Native.Nat.{ℕ, zero, suc, _+_, _*_, _^_, _≤_, _<_}
 use native.Mathlib.Omega.{arith}
 use native.Mathlib.Nat.{zero-add, le-trans, le-of-eq, le-antisymm}
 use lib.ListN.{length, getD}
 use Rattle.refusal.specs.declared.Refusal.the-variants.{Valuations}
-use Rattle.refusal.specs.Outcome.{Outcome, ok, refused, Accepted}
+use Rattle.refusal.specs.Outcome.{ok, Accepted}
 use Rattle.refusal.specs.OutcomeLaws.{accepted-ok, accepted-then, accepted-cond, accepted-mono}
 use Rattle.diagram.specs.Diagram.{Diagram, leaf}
 use Rattle.diagram.specs.Listing.{listing}
@@ -28,7 +28,7 @@ use Rattle.mdp.specs.BackupLaws.{leaf-has, variants-sum, bound-none, backup-is}
 use Rattle.mdp.specs.RunLaws.{run-right}
 use Rattle.best.specs.Moves.{Move, move, actionAt, actionSum, moveSum, firstMove}
 use Rattle.best.specs.Best.{Rated, rated, better, bindingValue, bindingsBest, movesBest, bestAnswer}
-use Rattle.best.specs.Claims.{IsMove, Earlier, FirstHighest, StepsBy, sumCalls}
+use Rattle.best.specs.Claims.{IsMove, FirstHighest, StepsBy, sumCalls}
 use Rattle.best.specs.Lead.{From, movesFrom, lead, Won}
 use Rattle.best.specs.LeadLaws.{first-none, first-is, from-all, from-head, from-tail, in-movesFrom, movesFrom-in, movesFrom-order, lead-bound, lead-won, lead-append}
 

@@ -17,7 +17,7 @@ use Rattle.diagram.specs.Variables.{closed}
 use Rattle.apply.specs.declared.Operation.the-variants.{Max}
 use Rattle.apply.specs.declared.Names.the-variants.{Shared}
 use Rattle.state.specs.State.{meaning, State}
-use Rattle.state.specs.Max.{Tuple, tuples}
+use Rattle.state.specs.Max.{tuples}
 use Rattle.minimum.specs.Number.{number}
 use Rattle.elimination.specs.Answer.{isTooLarge}
 use Rattle.regression.specs.RegressCall.{freedOutcome}

@@ -1,8 +1,7 @@
 -- Moves in document 01's run, computed from the definitions.
 use mathlib.Core.Path.{_≡_, refl}
 use mathlib.Core.Bool.{false}
-use mathlib.Core.List.{List, [], _∷_, _++_}
-use Prim.Native.Nat.{ℕ}
+use mathlib.Core.List.{[], _∷_}
 use Rattle.refusal.specs.Outcome.{ok}
 use Rattle.label.specs.Terms.{isConstant, isVariable}
 use Rattle.label.specs.Labels.{unpacked, predicateOf, packed, testOf, equates, termsOf}

@@ -1,9 +1,9 @@
 -- Laws of the tests, on the ways through the code.
-use mathlib.Core.Path.{_≡_, refl, sym, ap, ap₂, subst, _∙_}
+use mathlib.Core.Path.{_≡_, refl, sym, ap, subst, _∙_}
 use mathlib.Core.Logic.{_⊎_, inl, inr}
 use mathlib.Core.Bool.{Bool, true, false, not, _&&_, _||_, cond}
-use mathlib.Core.List.{List, [], _∷_, _++_}
-use Prim.Native.Nat.{ℕ, zero, suc, _+_, _*_, _-_, _/_, _≤_, _<_}
+use mathlib.Core.List.{List, _++_}
+use Prim.Native.Nat.{ℕ, suc, _+_, _*_, _-_, _/_, _≤_, _<_}
 use native.Mathlib.Omega.{arith}
 use native.Mathlib.Nat.{eq-or-lt-of-le, le-of-suc-le-suc}
 use native.Mathlib.Numerals.{add-one}
@@ -43,7 +43,7 @@ use Rattle.truths.specs.TruthChecks.{verdictOn}
 use Rattle.mdp.specs.Model.{mostActions, mostVariants}
 use Rattle.mdp.specs.CallLaws.{closed-count}
 use Rattle.model.specs.Layout.{part, variantWords, actionWords, tableWords, variantPlace, weightWords, variantsOf}
-use Rattle.checking.specs.Fitting.{ownParameters, isTruth, isWeight, isValue, truthAt, truthFits, variantFits, actionFits, actionsFit}
+use Rattle.checking.specs.Fitting.{ownParameters, isTruth, isWeight, isValue, truthAt, truthFits, variantFits, actionFits}
 use Rattle.checking.specs.Lent.{Lent}
 
 -- ===== Tests one after another =====

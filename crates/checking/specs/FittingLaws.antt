@@ -1,6 +1,6 @@
 -- Each test of a model's words is true exactly if they are what document 01 asks.
-use mathlib.Core.Path.{_≡_, sym, ap, ap₂, subst, _∙_}
-use mathlib.Core.Bool.{Bool, true, false, not, _||_}
+use mathlib.Core.Path.{_≡_, ap, ap₂, subst, _∙_}
+use mathlib.Core.Bool.{true, false, not, _||_}
 use mathlib.Core.List.{List}
 use Prim.Native.Nat.{ℕ, _+_, _*_, _-_, _≤_, _<_}
 use native.Mathlib.Omega.{arith}
@@ -14,7 +14,7 @@ use Rattle.label.specs.LabelLaws.{term-below}
 use Rattle.diagram.specs.Diagram.{Diagram, leaf, branch, same}
 use Rattle.diagram.specs.DiagramLaws.{same-eq, same-refl}
 use Rattle.diagram.specs.Words.{isListing}
-use Rattle.diagram.specs.Listing.{diagramOf, Good}
+use Rattle.diagram.specs.Listing.{diagramOf}
 use Rattle.diagram.specs.Listings.{is-listing-good}
 use Rattle.diagram.specs.Variables.{occurs, closed}
 use Rattle.listing.specs.Check.{Decides}
@@ -30,7 +30,7 @@ use Rattle.regression.specs.NextLaws.{occur-terms, terms-occur}
 use Rattle.mdp.specs.Model.{GoodTruthDiagram, mostVariants}
 use Rattle.mdp.specs.CallLaws.{within-each, each-within}
 use Rattle.model.specs.Layout.{actionWords, variantPlace, weightWords, variantsOf}
-use Rattle.checking.specs.DecisionLaws.{decide, decided, on, both, unless, at-most, is-true, every}
+use Rattle.checking.specs.DecisionLaws.{decide, on, both, unless, at-most, is-true, every}
 use Rattle.checking.specs.Fitting.{ownParameters, isTruth, isWeight, isValue, truthAt, truthFits, variantFits, actionFits, actionsFit}
 
 -- ===== Terms =====

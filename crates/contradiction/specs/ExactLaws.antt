@@ -23,7 +23,8 @@ use Rattle.state.specs.ValueLaws.{low-lt, low-ge, by-low, map-same}
 use Rattle.paths.specs.Paths.{Literal, Step, Path, stepBefore, paths, literals, literalOf}
 use Rattle.paths.specs.PathLaws.{mem-unmap}
 use Rattle.cutting.specs.MovedLaws.{Two, two, length-two}
-use Rattle.cutting.specs.TruthLaws.{says, value-says, Follows, tells as tells-both}
+use Rattle.cutting.specs.Truth.{says, Follows}
+use Rattle.cutting.specs.TruthLaws.{value-says, tells as tells-both}
 use Rattle.contradiction.specs.Contradiction.{literalTerms, Equates, Contradicts, unequal, differ, LeadsTo, representative, someLiteral, contradicts}
 use Rattle.contradiction.specs.JoinLaws.{one-joined, named-one, terms-base, representative-below}
 use Rattle.contradiction.specs.ContradictionLaws.{some-out, some-in, one-agree, contradicts-sound, contradicts-not}

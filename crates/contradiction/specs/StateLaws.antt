@@ -6,13 +6,13 @@ use Prim.Native.Nat.{ℕ}
 use lib.Dec.{eqb}
 use borrow.Author.Tests.{eqb-true, eqb-false}
 use Rattle.basics.specs.Tests.{Flag, isTrue, isFalse, flag}
-use Rattle.label.specs.Labels.{areArities, predicateOf}
+use Rattle.label.specs.Labels.{predicateOf}
 use Rattle.diagram.specs.Diagram.{Diagram, leaf}
 use Rattle.state.specs.State.{State, atomOf, meaning, truth, holds, value}
-use Rattle.paths.specs.Paths.{Literal, Path, paths, literals}
-use Rattle.cutting.specs.TruthLaws.{says, value-says, Follows, Followed, walk, tells}
-use Rattle.contradiction.specs.Contradiction.{literalTerms, Equates, Joined, named, itself, turned, along, Agree, Contradicts, unequal, differ, LeadsTo, leadsTo}
-use Rattle.contradiction.specs.ContradictionLaws.{leads-sound}
+use Rattle.paths.specs.Paths.{Literal, Path, literals}
+use Rattle.cutting.specs.Truth.{says, Follows}
+use Rattle.cutting.specs.TruthLaws.{value-says, Followed, walk, tells}
+use Rattle.contradiction.specs.Contradiction.{literalTerms, Equates, Joined, named, itself, turned, along, Agree, Contradicts, unequal, differ, LeadsTo}
 
 module _ (ar : List ℕ) (s : State) (θ : ℕ → ℕ) where
   -- a literal's truth, by its predicate and the objects of its terms

@@ -34,7 +34,7 @@ use Rattle.valuing.specs.WalkLaws.{topping-room, prepared}
 use Rattle.count_states.specs.declared.Counted.{Counted}
 use Rattle.count_states.specs.declared.Counted.the-variants as Counted
 use Rattle.count_states.specs.Counted.{countedAs, Countable, Counts}
-use Rattle.count_states.specs.Facts.{Power, Declared, picked, Choosing, Chosen}
+use Rattle.count_states.specs.Facts.{Power, Declared, picked, Chosen}
 use Rattle.count_states.specs.Table.{lineWords, entriesAt, mostStates, enter, Enterable, Entered}
 use Rattle.count_states.specs.States.{Valuing, Choices, valueOf, largeAt, rowsSpread, Spreading}
 use Rattle.count_states.proofs.ChoiceLaws.{picked-lent}
@@ -47,9 +47,6 @@ pub facts-prepared : {ar ws high : List ℕ} {few plain : Bool} {n : ℕ} {const
 facts-prepared {ar} {ws} {high} {few} {plain} {n} {constants} {facts} {index} v s i = prepared ar ws high n constants facts index (v .listed) s (v .places) (v .tops) i
 
 -- ===== value_choice =====
-pub choices-choosing : {ar : List ℕ} {n : ℕ} {constants rows : List ℕ} {g : ℕ} {facts : List ℕ} → Choices ar n constants rows g facts → Choosing rows facts g
-choices-choosing h = record { rows-there = h .rows-there; room = h .room }
-
 pub chosen-length : {rows facts′ : List ℕ} {g c m : ℕ} → Chosen rows g c m facts′ → m ≡ length (take m facts′)
 chosen-length {facts′ = facts′} {m = m} k = sym (length-take-le m facts′ (k .most))
 

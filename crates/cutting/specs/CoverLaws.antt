@@ -16,18 +16,18 @@ use Rattle.label.specs.Terms.{isVariable}
 use Rattle.label.specs.Labels.{areArities, isLabel, placeIn, placeAt, unpacked, termsOf}
 use Rattle.label.specs.declared.Atom.{Atom}
 use Rattle.label.specs.LabelLaws.{place-of, place-from, label-fits}
-use Rattle.diagram.specs.Diagram.{Diagram, leaf, branch, same, relabel}
+use Rattle.diagram.specs.Diagram.{Diagram, leaf, branch, same, relabel, EveryLabel}
 use Rattle.diagram.specs.Listing.{Fine}
 use Rattle.diagram.specs.DiagramLaws.{same-eq, same-ne}
 use Rattle.diagram.specs.Rows.{rows}
 use Rattle.diagram.specs.RowLists.{rowTree}
 use Rattle.diagram.specs.Variables.{isPlain}
-use Rattle.apply.specs.GoodLaws.{EveryLabel, fine-every}
+use Rattle.apply.specs.GoodLaws.{fine-every}
 use Rattle.state.specs.State.{atomOf, meaning}
 use Rattle.state.specs.Terms.{Each}
 use Rattle.minimum.specs.Operations.{Plain}
 use Rattle.minimum.specs.PlainLaws.{fine-plain}
-use Rattle.paths.specs.Paths.{Literal, Step, Path, stepBefore, paths, literals, literalOf, termsIn, through}
+use Rattle.paths.specs.Paths.{Literal, Step, Path, stepBefore, paths, literals, termsIn, through}
 use Rattle.cutting.specs.Match.{start}
 use Rattle.cutting.specs.Cut.{Replacement, Cover, target, MayGo, may, covers, isCover, somePath, everyPath, isFree, mayGo, Choice, goes, stays, choiceBelow, choice}
 use Rattle.label.specs.ArityLaws.{terms-below, terms-atom}

@@ -20,6 +20,9 @@
 --   reduced, cutAt == a diagram reduced; the edge of the row r on the side b led to leaf 0, wherever r stands
 --   cutDiagram == the edge of row k led to leaf 0, then reduced and closed up
 --
+-- Definitions: truths
+--   says, Follows == the truth of what a label says, where each term has its object; truths that follow a path
+--
 -- Definitions: the call
 --   Edge, edgeOf, isTrueEdge == the true edge or the false one
 --   Cut, chosenAnswer, diagramAnswer == row, edge and rows left, or the refusal: 25, 17, then 16
@@ -40,6 +43,7 @@
 
 pub mod Match
 pub mod Cut
+pub mod Truth
 -- what laws of the search suppose
 pub mod Searchable
 -- laws

@@ -28,6 +28,7 @@ use Rattle.state.specs.ValueLaws.{map-map, fits-after}
 use Rattle.apply.specs.ApplyLaws.{eval-node}
 use Rattle.paths.specs.Paths.{Literal, Step, Path, stepBefore, paths, literals, literalOf, termsIn, isEdge, through, mostPaths}
 use Rattle.cutting.specs.Match.{turned}
+use Rattle.cutting.specs.Truth.{says, Follows}
 use Rattle.cutting.specs.Cut.{Matched, plain, found, Replacement, MayGo, may, choice, reduced, cutAt, chosenAnswer, diagramAnswer}
 use Rattle.cutting.specs.declared.Edge.{Edge}
 use Rattle.cutting.specs.declared.Cut.{Cut}
@@ -39,10 +40,6 @@ use Rattle.cutting.specs.CoverLaws.{in-small}
 use Rattle.cutting.specs.ReduceLaws.{left-terms}
 
 -- ===== Truths of labels =====
-
--- the truth of what the label l says, where each term has the object that θ gives it
-abbrev pub says : List ℕ → State → (ℕ → ℕ) → ℕ → Bool
-says ar s θ l = holds s θ (atomOf ar l)
 
 pub value-says : (ar : List ℕ) (s : State) (θ : ℕ → ℕ) (d : Diagram) → value s (meaning ar d) θ ≡ eval (says ar s θ) d
 unfolding value meaning eval relabel
@@ -87,10 +84,6 @@ module _ (ar : List ℕ) (good : areArities ar ≡ true) (s : State) (θ σ : �
           ap (λ (x : ℕ). truth s x (map θ us)) z ∙ sym (truth-turned s θ us) ∙ sym (ap₂ (λ (x : ℕ) (ts : List ℕ). truth s x (map θ ts)) p q)
 
 -- ===== Paths and truths =====
-
--- the truths c follow the path
-pub record Follows (c : ℕ → Bool) (p : Path) : Type 0 where
-  pub each : (l : Literal) → List·Memᴰ l (literals p) → c (l .label) ≡ l .sign
 
 -- what a followed path says of the diagram and of the cut one
 pub record Tells (r : Diagram) (b : Bool) (d : Diagram) (c : ℕ → Bool) (p : Path) : Type 0 where

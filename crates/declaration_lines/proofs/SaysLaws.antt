@@ -7,6 +7,7 @@ use native.Mathlib.Omega.{arith}
 use lib.Dec.{eqb, ltb, leb}
 use lib.ListN.{length, drop}
 use borrow.Author.Tests.{leb-false}
+use Rattle.basics.specs.Tests.{neither}
 use Rattle.refusal.specs.declared.Refusal.{Refusal}
 use Rattle.refusal.specs.declared.Refusal.the-variants.{Name, Range, Space}
 use Rattle.label.specs.Limits.{parameterCount}
@@ -221,15 +222,11 @@ passed : {A : Type 0} (b : Bool) (why : Refusal) (o : Outcome A) {a : A} → ref
 passed true why o e = let z : _≡_ {A = ℕ} 0 1 = cc in absurd (omega arith)
 passed false why o e = (refl, e)
 
-or-false-other : (a b : Bool) → (a || b) ≡ false → b ≡ false
-or-false-other true b e = let z : _≡_ {A = ℕ} 0 1 = cc in absurd (omega arith)
-or-false-other false b e = e
-
 few-actions : (m : Names) (k : Key) (ps : List Key) {r : Names} → actionLine m k ps ≡ ok r → length (m .actions) < mostActions
 unfolding actionLine
 few-actions m k ps e =
     let f = passed (ltb parameterCount (length ps) || leb mostActions (length (m .actions))) Space _ (passed (isAmong k (m .actions) || repeated [] ps) Name _ e .1) .0 in
-    leb-false mostActions (length (m .actions)) (or-false-other (ltb parameterCount (length ps)) _ f)
+    leb-false mostActions (length (m .actions)) (neither (ltb parameterCount (length ps)) _ f .1)
 
 -- two words for each word behind the action's name
 pub action-keys : {s : List ℕ} {n : Numbers} {names table work : List ℕ} {i : ℕ} {x : Next} → i ≡ firstWord Action → x ≡ nextAt s i

@@ -1,5 +1,5 @@
 -- A backup, a cut and a reduction of a value diagram name only what the model and the diagram name (document 01, sections 'Backup' and 'Cut'; document 02, L13).
-use mathlib.Core.Path.{_≡_, refl, subst}
+use mathlib.Core.Path.{_≡_, subst}
 use mathlib.Core.Bool.{Bool, true}
 use mathlib.Core.List.{List, [], _∷_}
 use mathlib.Core.Option.{some}
@@ -9,14 +9,14 @@ use lib.ListN.{getD}
 use Rattle.refusal.specs.declared.Refusal.the-variants.{Scale}
 use Rattle.refusal.specs.Outcome.{Accepted}
 use Rattle.refusal.specs.OutcomeLaws.{accepted-ok, accepted-then, accepted-cond, accepted-mono}
-use Rattle.label.specs.Limits.{firstParameter, parameterCount, firstVariable, predicateCount}
+use Rattle.label.specs.Limits.{parameterCount, firstVariable, predicateCount}
 use Rattle.label.specs.Labels.{areArities, isLabel, unpacked, termsOf}
-use Rattle.diagram.specs.Diagram.{Tree, Diagram, leaf, branch}
+use Rattle.diagram.specs.Diagram.{Tree, Diagram, leaf, branch, EveryLabel}
 use Rattle.diagram.specs.Listing.{Fine}
 use Rattle.diagram.specs.Variables.{closed}
 use Rattle.apply.specs.declared.Operation.the-variants.{Sum, Product, Max}
 use Rattle.apply.specs.declared.Names.the-variants.{Apart, Shared}
-use Rattle.apply.specs.GoodLaws.{EveryLabel, fine-every}
+use Rattle.apply.specs.GoodLaws.{fine-every}
 use Rattle.state.specs.State.{Atomic, atomOf, meaning}
 use Rattle.state.specs.Terms.{Each, args, Terms}
 use Rattle.state.specs.ValueLaws.{Each-mono}

@@ -1,29 +1,29 @@
 -- Combinations and closing up name nothing new.
 use mathlib.Core.Path.{_≡_, refl, sym, ap, subst}
 use mathlib.Core.Logic.{_⊎_, inl, inr}
-use mathlib.Core.Bool.{Bool, true, false, not, _&&_, cond}
+use mathlib.Core.Bool.{Bool, true, false}
 use mathlib.Core.List.{List}
 use Prim.Native.Nat.{ℕ, _+_, _≤_, _<_}
 use native.Mathlib.Omega.{arith}
 use lib.ListN.{length, getD}
 use lib.Dec.{eqb, ltb}
 use borrow.Author.Tests.{ltb-false}
-use Rattle.basics.specs.Tests.{Cmp, below, equal, above, cmp}
+use Rattle.basics.specs.Tests.{Cmp, below, equal, above, cmp, neither}
 use Rattle.basics.specs.Members.{mem}
 use Rattle.refusal.specs.Outcome.{Accepted}
 use Rattle.refusal.specs.OutcomeLaws.{accepted-ok, accepted-refused}
 use Rattle.label.specs.Limits.{firstVariable, variableCount, firstMinimum, minimumCount, termEnd}
 use Rattle.label.specs.Terms.{isTerm}
-use Rattle.label.specs.Labels.{areArities, isLabel, predicateOf, unpacked, termsOf}
+use Rattle.label.specs.Labels.{areArities, predicateOf, unpacked, termsOf}
 use Rattle.label.specs.LabelLaws.{term-below}
 use Rattle.label.specs.Renamings.{mapped, renamed, numbering, Increasing, EachIn}
 use Rattle.label.specs.RenamingLaws.{renamed-atom, renamed-label, renamed-terms, Numbered, numbering-low, numbering-variable, numbering-minimum, numbering-increasing}
 use Rattle.label.specs.declared.Atom.{Atom}
-use Rattle.diagram.specs.Diagram.{Diagram, leaf, branch, same, relabel}
+use Rattle.diagram.specs.Diagram.{Diagram, leaf, branch, relabel, EveryLabel}
 use Rattle.diagram.specs.Variables.{occurs, variables, minimums, closedFrom, closed, after}
 use Rattle.diagram.specs.Rows.{rows}
 use Rattle.diagram.specs.RowLists.{rowTree}
-use Rattle.rename.specs.Relabelling.{Labels, Terms, KindsFit}
+use Rattle.rename.specs.Relabelling.{Terms, KindsFit}
 use Rattle.rename.specs.TermLaws.{label-terms}
 use Rattle.rename.specs.VariableLaws.{occurs-terms, terms-each-occurs, occurs-variable, variables-few, occurs-minimum, minimums-few}
 use Rattle.rename.specs.ClosingLaws.{after-fit}
@@ -33,11 +33,11 @@ use Rattle.apply.specs.declared.Names.the-variants.{Apart, Shared}
 use Rattle.apply.specs.declared.Combined.{Combined}
 use Rattle.apply.specs.declared.Combined.the-variants.{Done, Refused}
 use Rattle.apply.specs.Apply.{apply}
-use Rattle.apply.specs.GoodLaws.{EveryLabel, every-apply}
+use Rattle.apply.specs.GoodLaws.{every-apply}
 use Rattle.apply.specs.Combination.{operate, combination, diagramAnswer, doneAs, tooMany}
 use Rattle.apply.specs.CombinationLaws.{done-accepted}
 use Rattle.state.specs.State.{atomOf}
-use Rattle.state.specs.Terms.{Each, args}
+use Rattle.state.specs.Terms.{Each}
 use Rattle.state.specs.ValueLaws.{Each-map, Each-mono}
 use Rattle.regression.specs.FreeCallLaws.{each-in}
 use Rattle.cutting.specs.Cut.{reduced, cutAt, cutDiagram}
@@ -45,7 +45,7 @@ use Rattle.reduction.specs.Combinations.{winners}
 use Rattle.reduction.specs.Reduction.{isOn, keeping, reducedDiagram}
 use Rattle.reduction.specs.KeepingLaws.{keeping-every, reduced-every}
 use Rattle.mdp.specs.Backup.{given, combined}
-use Rattle.model_laws.specs.OutcomeLaws.{neither}
+use Rattle.mdp.specs.CutLaws.{every-cut}
 use Rattle.declared.specs.Proper.{Proper, AllProper}
 
 -- ===== Labels one by one =====
@@ -73,21 +73,6 @@ term-terms ar p P (branch l t f) w = (label-terms ar l (w .0 .is-label), term-te
 -- a term that occurs is a term
 pub proper-term : (ar : List ℕ) (p : ℕ) (P : ℕ → Type 0) (d : Diagram) → AllProper ar p P d → (t : ℕ) → occurs ar t d ≡ true → (isTerm t ≡ true) × P t
 proper-term ar p P d w t o = (occurs-terms ar (λ u. isTerm u ≡ true) d t (term-terms ar p P d w) o, occurs-terms ar P d t (proper-terms ar p P d w) o)
-
--- ===== An edge that goes =====
-
-every-pick : (P : ℕ → Type 0) (b : Bool) (x y : Diagram) → EveryLabel P x → EveryLabel P y → EveryLabel P (cond b x y)
-every-pick P true x y u v = u
-every-pick P false x y u v = v
-
-every-cut : (P : ℕ → Type 0) (r : Diagram) (b : Bool) (d : Diagram) → EveryLabel P d → EveryLabel P (cutAt r b d)
-unfolding cutAt
-every-cut P r b (leaf v) h = tt
-every-cut P r b (branch l t f) h = (
-  h .0,
-  every-pick P (same r (branch l t f) && b) (leaf 0) (cutAt r b t) tt (every-cut P r b t (h .1)),
-  every-pick P (same r (branch l t f) && not b) (leaf 0) (cutAt r b f) tt (every-cut P r b f (h .2)),
-)
 
 -- ===== Labels renamed in their order =====
 

@@ -6,8 +6,7 @@ use Prim.Native.Nat.{ℕ, _≤_, _<_}
 use lib.ListN.{length, getD}
 use Rattle.label.specs.Limits.{firstParameter}
 use Rattle.label.specs.Labels.{predicateOf, unpacked, termsOf}
-use Rattle.diagram.specs.Diagram.{Diagram}
-use Rattle.apply.specs.GoodLaws.{EveryLabel}
+use Rattle.diagram.specs.Diagram.{Diagram, EveryLabel}
 use Rattle.state.specs.Terms.{Each}
 use Rattle.words.specs.Words.{IsName}
 use Rattle.words.specs.Keys.{keyOf, nameOf}

@@ -1,9 +1,9 @@
 -- What is declared stays declared when more is: one constant more, one predicate more.
-use mathlib.Core.Path.{_≡_, refl, sym, ap, subst, _∙_}
-use mathlib.Core.List.{List, [], _∷_}
-use Prim.Native.Nat.{ℕ, _≤_, _<_}
+use mathlib.Core.Path.{_≡_, sym, ap, subst, _∙_}
+use mathlib.Core.List.{List}
+use Prim.Native.Nat.{ℕ, _≤_}
 use native.Mathlib.Omega.{arith}
-use lib.ListN.{length, getD, take}
+use lib.ListN.{getD, take}
 use Rattle.label.specs.Labels.{placesOf, predicateOf, unpacked, termsOf}
 use Rattle.label.specs.LabelLaws.{predicate-of}
 use Rattle.diagram.specs.Diagram.{Diagram}

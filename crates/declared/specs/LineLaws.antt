@@ -1,19 +1,18 @@
 -- Every line keeps a session's parts declared (document 01, section 'Text').
 use mathlib.Core.Path.{_≡_, refl, sym, ap, subst, _∙_}
-use mathlib.Core.Bool.{true, false, _||_}
+use mathlib.Core.Bool.{_||_, cond}
 use mathlib.Core.List.{List, [], _∷_, _++_}
-use mathlib.Core.Option.{some, none}
-use Prim.Native.Nat.{ℕ, suc, _+_, _≤_, _<_}
+use mathlib.Core.Option.{some}
+use Prim.Native.Nat.{ℕ, suc, _+_, _≤_}
 use native.Mathlib.Omega.{arith}
 use lib.ListN.{length, getD, set, drop}
 use lib.Seq.{getD-set-other}
 use lib.Dec.{eqb, ltb, leb}
-use Rattle.basics.specs.Tests.{Flag, isTrue, isFalse, flag}
+use Rattle.basics.specs.Tests.{Flag, isTrue, isFalse, flag, neither}
 use Rattle.refusal.specs.declared.Refusal.the-variants.{Name, Range, Truth, Space}
-use Rattle.refusal.specs.Outcome.{Outcome, ok, refused, andThen, Accepted}
+use Rattle.refusal.specs.Outcome.{Outcome, ok, andThen, Accepted}
 use Rattle.refusal.specs.OutcomeLaws.{accepted-ok, accepted-then, accepted-next, accepted-cond}
 use Rattle.label.specs.Limits.{constantCount, predicateCount, parameterCount, mostPlaces}
-use Rattle.words.specs.Words.{IsName}
 use Rattle.words.specs.Keys.{keyOf}
 use Rattle.words.specs.declared.Key.{Key}
 use Rattle.names.specs.Keys.{isAmong}
@@ -26,7 +25,7 @@ use Rattle.text.specs.LineLaws.{line-sound}
 use Rattle.events.specs.declared.Event.{Event}
 use Rattle.events.specs.Events.{firstWord, diagramEvents, wordsEvents}
 use Rattle.events.specs.Front.{eventsOf}
-use Rattle.events.specs.Contents.{keyIn, numberIn, wordAt, keysIn}
+use Rattle.events.specs.Contents.{keyIn, wordAt}
 use Rattle.events.specs.LineEvents.{line-events}
 use Rattle.diagram.specs.Diagram.{Diagram}
 use Rattle.regression.specs.Regression.{Truths}
@@ -40,7 +39,7 @@ use Rattle.mdp.specs.Backup.{backup}
 use Rattle.mdp.specs.Runs.{Held, begin}
 use Rattle.reading.specs.declared.Binding.{Binding}
 use Rattle.reading.specs.declared.Binding.the-variants.{Any, None, Only}
-use Rattle.reading.specs.Reading.{Written, arguments, reading}
+use Rattle.reading.specs.Reading.{arguments, reading}
 use Rattle.reading.specs.Reading.Judged.{fine}
 use Rattle.reading.specs.Numbering.{metFirst, rewardReading}
 use Rattle.reading.specs.Head.{headNumber, headArguments}
@@ -52,18 +51,18 @@ use Rattle.session.specs.Place.{ruleOf}
 use Rattle.session.specs.Session.{Names, Session}
 use Rattle.session.specs.Declaring.{isDeclared, constantLine, Vocabulary, predicateLine, repeated, actionLine}
 use Rattle.session.specs.Modelling.{mostModelRows, namesFor, rowsWith, withReward, rewardRead, rewardLine, addVariant, noTruths, withVariant, weightRead, variantLine}
-use Rattle.session.specs.Modelling.{pickOption, withTruthAt, lastTruths, lastVariant, truthsNow, isSome, withTruth, truthRead, becomesLine, weighed}
+use Rattle.session.specs.Modelling.{withTruthAt, lastTruths, lastVariant, truthsNow, isSome, withTruth, truthRead, becomesLine, weighed}
 use Rattle.session.specs.Running.{withHeld, startLine, backupLine, cutTo, cutLine, reduceLine}
 use Rattle.session.specs.Replies.{Reply, allowed, withNames, withVocabulary, withTotal, withDiscount, withAction, wordsOf, reply}
 use Rattle.session.specs.Good.{GoodTables, GoodSession}
-use Rattle.model_laws.specs.OutcomeLaws.{accepted-read, neither}
+use Rattle.model_laws.specs.OutcomeLaws.{accepted-read}
 use Rattle.model_laws.specs.ActionLaws.{length-more, every-more, withTruths}
 use Rattle.model_laws.specs.HeadLaws.{head-headed}
 use Rattle.session_laws.specs.PlaceLaws.{in-run}
 use Rattle.session_laws.specs.ReplyLaws.{Standing}
 use Rattle.session_laws.specs.RunLaws.{made-by}
 use Rattle.session_laws.specs.CaseLaws.{Cases, vocabularyOf, done-by, reply-by}
-use Rattle.declared.specs.Declares.{DeclaredLabel, Declares, DeclaredVariant, DeclaredAction, NameKey, NameKeys, DeclaredParts, DeclaredSession}
+use Rattle.declared.specs.Declares.{Declares, DeclaredVariant, DeclaredAction, NameKey, DeclaredSession}
 use Rattle.declared.specs.NameLaws.{name-is-key, keys-more}
 use Rattle.declared.specs.GrowthLaws.{declares-grown, actions-grown}
 use Rattle.declared.specs.ReadLaws.{text-declares, reward-declares}
@@ -237,7 +236,7 @@ module _ (σ : Session) (h : DeclaredSession σ) where
     unfolding withTruthAt
     truth-put p d w v g = record { weight = g .weight; truths = λ q x e. go q x e (flag (eqb q p)) }
       where
-        go : (q : ℕ) (x : Diagram) → pickOption (eqb q p) (some d) (v .truths q) ≡ some x → Flag (eqb q p) → Named x
+        go : (q : ℕ) (x : Diagram) → cond (eqb q p) (some d) (v .truths q) ≡ some x → Flag (eqb q p) → Named x
         go q x e (isTrue z) = let y : d ≡ x = (let s : some d ≡ some x = rw z at e in cc) in subst Named y w
         go q x e (isFalse z) = g .truths q x (rw z at e)
 

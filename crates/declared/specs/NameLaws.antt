@@ -9,8 +9,6 @@ use lib.Seq.{getD-at}
 use borrow.Author.Tests.{lt-ltb}
 use Rattle.basics.specs.Tests.{Cmp, below, equal, above, cmp}
 use Rattle.basics.specs.Members.{clash}
-use Rattle.diagram.specs.Diagram.{Diagram}
-use Rattle.rename.specs.Relabelling.{Labels}
 use Rattle.words.specs.Words.{IsName}
 use Rattle.words.specs.Keys.{keyOf, nameOf}
 use Rattle.words.specs.KeyLaws.{name-of}
@@ -19,7 +17,7 @@ use Rattle.names.specs.Keys.{sameKey, placeOf, isAmong}
 use Rattle.names.specs.KeyLaws.{same-refl}
 use Rattle.events.specs.Contents.{noKey}
 use Rattle.session.specs.Session.{Names}
-use Rattle.diagram_form.specs.Form.{Tables, tablesOf}
+use Rattle.diagram_form.specs.Form.{tablesOf}
 use Rattle.round_trip.specs.RoundTrip.{Different, AreNames, Declared}
 use Rattle.round_trip.specs.KeyNames.{KeysOf}
 use Rattle.declared.specs.Declares.{NameKey, NameKeys}

@@ -5,8 +5,7 @@ use mathlib.Core.List.{List}
 use Prim.Native.Nat.{ℕ, _+_, _≤_, _<_}
 use Rattle.label.specs.Limits.{firstVariable}
 use Rattle.label.specs.Labels.{isLabel, predicateOf, unpacked, termsOf}
-use Rattle.diagram.specs.Diagram.{Diagram}
-use Rattle.apply.specs.GoodLaws.{EveryLabel}
+use Rattle.diagram.specs.Diagram.{Diagram, EveryLabel}
 use Rattle.state.specs.Terms.{Each}
 use Rattle.regression.specs.Parameters.{Allowed}
 use Rattle.declared.specs.Declares.{Constant}

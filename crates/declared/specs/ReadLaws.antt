@@ -1,5 +1,5 @@
 -- What the words of a diagram come to names only declared constants and predicates, and so does what is built from them.
-use mathlib.Core.Path.{_≡_, refl, sym, ap, subst, _∙_}
+use mathlib.Core.Path.{_≡_, sym, ap, subst, _∙_}
 use mathlib.Core.Bool.{Bool, true, false, cond}
 use mathlib.Core.List.{List, [], _∷_, List·Memᴰ, List·Memᴰ·head, List·Memᴰ·tail}
 use Prim.Native.Nat.{ℕ, _+_, _≤_, _<_}
@@ -10,14 +10,13 @@ use borrow.Author.Tests.{ltb-true, eqb-true, ne-eqb}
 use Rattle.refusal.specs.declared.Refusal.the-variants.{Name, Arity, Range, Unbound}
 use Rattle.refusal.specs.Outcome.{ok}
 use Rattle.label.specs.Limits.{constantCount, firstParameter, parameterCount, firstVariable, firstMinimum, termBase, equality, equalityArity}
-use Rattle.label.specs.Labels.{areArities, isLabel, atomFrom, packed, predicateOf, unpacked, termsOf, labelOf, equates, testOf}
+use Rattle.label.specs.Labels.{areArities, atomFrom, packed, labelOf, equates, testOf}
 use Rattle.label.specs.ArityLaws.{arity-two, atom-terms, from-places}
 use Rattle.label.specs.declared.Test.{Test}
 use Rattle.label.specs.declared.Test.the-variants.{Always, Is}
 use Rattle.diagram.specs.Sizes.{highestValue}
 use Rattle.diagram.specs.Diagram.{Diagram}
 use Rattle.diagram.specs.Variables.{closed}
-use Rattle.apply.specs.GoodLaws.{EveryLabel}
 use Rattle.state.specs.State.{atom, atomOf}
 use Rattle.state.specs.Terms.{Each}
 use Rattle.regression.specs.MovedLaws.{atom-packed}
@@ -36,15 +35,16 @@ use Rattle.reading.specs.declared.Binding.the-variants.{Any, None, Only}
 use Rattle.reading.specs.Reading.{Names, Judged, Met, Written, andThen, constantNumber, parameterNumber, met, numberIn, variableNumber, minimumNumber, variableMet, minimumMet, reading}
 use Rattle.reading.specs.Reading.Judged.{fine, refused}
 use Rattle.reading.specs.JudgedLaws.{apart, fine-one, chosen, passed, chained}
-use Rattle.reading.specs.Tree.{Reading, Result, having, resolveTerm, resolveTerms, testing, resolveAtom, branching, resolveDiagram, depth, opsOf, GoodReading, NamesFit}
+use Rattle.reading.specs.Tree.{Reading, Result, having, resolveTerm, resolveTerms, testing, resolveAtom, branching, resolveDiagram, GoodReading, NamesFit}
 use Rattle.reading.specs.Tree.Reading.{number, branch}
 use Rattle.reading.specs.TreeLaws.{Resolving, terms-resolved}
+use Rattle.build.specs.Written.{diagramFor, EachAsked}
 use Rattle.build.specs.Machine.{mostTests, built, builtClosed}
 use Rattle.build.specs.MachineLaws.{built-text, built-reward}
-use Rattle.build.specs.ReadingLaws.{diagramFor, EachAsked, labels-for, text-held, reward-held}
+use Rattle.build.specs.ReadingLaws.{labels-for, text-held, reward-held}
 use Rattle.uniqueness.specs.WrittenLaws.{Resolved, resolved}
 use Rattle.declared.specs.Declares.{Constant, DeclaredLabel, Declares}
-use Rattle.declared.specs.Proper.{Proper, AllProper}
+use Rattle.declared.specs.Proper.{Proper}
 use Rattle.declared.specs.ClosingLaws.{closed-proper}
 use Rattle.declared.specs.BackupLaws.{proper-declared}
 

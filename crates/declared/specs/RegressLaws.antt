@@ -1,8 +1,8 @@
 -- Replacement, regression and freeing name nothing but what the diagram and the truth diagrams name.
-use mathlib.Core.Path.{_≡_, refl, sym, ap, ap₂, subst, _∙_}
+use mathlib.Core.Path.{_≡_, refl, sym, subst}
 use mathlib.Core.Logic.{_⊎_, inl, inr}
 use mathlib.Core.Bool.{true, false}
-use mathlib.Core.List.{List, [], _∷_, map}
+use mathlib.Core.List.{List, [], _∷_}
 use mathlib.Core.Option.{Option, some, none}
 use Prim.Native.Nat.{ℕ, zero, suc, _+_, _-_, _≤_, _<_}
 use native.Mathlib.Omega.{arith}
@@ -16,19 +16,17 @@ use Rattle.refusal.specs.Outcome.{Accepted}
 use Rattle.refusal.specs.OutcomeLaws.{accepted-ok, accepted-cond, accepted-mono}
 use Rattle.label.specs.Limits.{firstParameter, parameterCount, firstVariable, firstMinimum, predicateCount}
 use Rattle.label.specs.Terms.{isTerm}
-use Rattle.label.specs.Labels.{areArities, isLabel, predicateOf, unpacked, termsOf}
+use Rattle.label.specs.Labels.{areArities, predicateOf, unpacked, termsOf}
 use Rattle.label.specs.ArityLaws.{terms-length}
 use Rattle.label.specs.Renamings.{moved, freeing}
 use Rattle.label.specs.RenamingLaws.{Freed, freeing-constant, freeing-parameter, freeing-variable, freeing-minimum, freeing-increasing}
 use Rattle.label.specs.declared.Test.{Test}
-use Rattle.diagram.specs.Diagram.{Diagram, leaf, branch}
+use Rattle.diagram.specs.Diagram.{Diagram}
 use Rattle.diagram.specs.Variables.{occurs}
-use Rattle.rename.specs.Relabelling.{Terms}
 use Rattle.rename.specs.Freeing.{freed}
 use Rattle.rename.specs.VariableLaws.{terms-each-occurs}
-use Rattle.apply.specs.GoodLaws.{EveryLabel}
-use Rattle.state.specs.State.{Atomic, atom, atomOf}
-use Rattle.state.specs.Terms.{Each, args}
+use Rattle.state.specs.State.{atom, atomOf}
+use Rattle.state.specs.Terms.{Each}
 use Rattle.state.specs.ValueLaws.{Each-map}
 use Rattle.regression.specs.Step.{testDiagram}
 use Rattle.regression.specs.Regression.{argument, Truths, truthOf, regressed}

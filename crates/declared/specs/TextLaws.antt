@@ -1,15 +1,12 @@
 -- Every session that a text reaches has names for its keys, each once, and they cover its value diagram (document 02, L2).
-use mathlib.Core.Path.{_≡_, sym}
 use mathlib.Core.List.{List, [], _∷_, map}
 use Prim.Native.Nat.{ℕ, suc, _≤_}
 use native.Mathlib.Omega.{arith}
 use lib.ListN.{length, length-map}
-use Rattle.label.specs.Limits.{firstParameter}
 use Rattle.label.specs.Labels.{predicateOf, unpacked, termsOf}
-use Rattle.diagram.specs.Diagram.{Diagram, leaf, branch}
-use Rattle.rename.specs.Relabelling.{Labels, Terms}
+use Rattle.diagram.specs.Diagram.{Diagram, leaf, branch, EveryLabel}
+use Rattle.rename.specs.Relabelling.{Terms}
 use Rattle.state.specs.State.{atomOf}
-use Rattle.state.specs.Terms.{Each}
 use Rattle.state.specs.ValueLaws.{Each-mono}
 use Rattle.regression.specs.FreeCallLaws.{each-in}
 use Rattle.words.specs.Keys.{nameOf}
@@ -18,7 +15,6 @@ use Rattle.session.specs.Replies.{reply}
 use Rattle.session.specs.Texts.{hasBytes, Progress, replied, afterLine, afterLines, afterRest, beginning, linesOf, textRead}
 use Rattle.session_laws.specs.TextLaws.{Sound, reply-sound, text-sound}
 use Rattle.diagram_form.specs.Form.{tablesOf}
-use Rattle.round_trip.specs.RoundTrip.{Covers}
 use Rattle.declared.specs.Declares.{Constant, Declares, DeclaredSession, Named}
 use Rattle.declared.specs.NameLaws.{no-keys, keys-of, tables-declared}
 use Rattle.declared.specs.LineLaws.{reply-declared}
@@ -33,7 +29,7 @@ module _ (ar : List ℕ) (c p n m : ℕ) (constants : c ≤ n) (predicates : p �
       let more = Each-mono (Constant c) (Constant n) (λ t h i. let j = h i in omega arith) (termsOf ar (unpacked l)) (w .0 .constants) in
       (each-in (Constant n) ar l more, covers-constants t (w .1), covers-constants f (w .2))
 
-  covers-predicates : (d : Diagram) → Declares ar c p d → Labels (λ l. predicateOf l ≤ m) d
+  covers-predicates : (d : Diagram) → Declares ar c p d → EveryLabel (λ l. predicateOf l ≤ m) d
   covers-predicates (leaf v) w = tt
   covers-predicates (branch l t f) w = (omega (arith, w .0 .predicate), covers-predicates t (w .1), covers-predicates f (w .2))
 

@@ -39,7 +39,8 @@ use Rattle.replay_step.specs.declared.Stepped.the-variants as S
 use Rattle.replay_step.specs.Stepped.{lentDid, lentStep, StepTask, Steps}
 use Rattle.memory.specs.declared.Numbers.{Numbers}
 use Rattle.memory.specs.declared.Said.{Said}
-use Rattle.memory.specs.Memory.{memoryOf, sessionOf, Stored, Answers}
+use Rattle.memory.specs.Memory.{memoryOf, sessionOf, Answers, withState}
+use Rattle.memory.specs.StoredLaws.{stored-state}
 use Rattle.memory.specs.WordLaws.{next-drops, first-is, second-is, rest-is}
 use Rattle.desk_lines.specs.declared.Found.{Found}
 use Rattle.desk_lines.specs.declared.Found.the-variants as F
@@ -215,20 +216,8 @@ module _ {n : Numbers} {names ar listings table state : List ℕ} (t : LogTask n
 
 -- ===== What the line is answered =====
 
--- words that have their room still have it, with another state
-stored-moved : {n : Numbers} {names ar ls tb st v : List ℕ} (st′ : List ℕ) (l : Live)
-    → Stored n (memoryOf names ar ls tb st v) → GoodLive st′ l → Stored (moved n l .numbers) (memoryOf names ar ls tb st′ v)
-stored-moved st′ l g h = record {
-  vocabulary = g .vocabulary;
-  building = g .building;
-  listing-room = g .listing-room;
-  whole = g .whole;
-  reward = g .reward;
-  live = h;
-  value-room = g .value-room;
-  value-rows = g .value-rows;
-  holding = λ e. record { reward = g .holding e .reward; listing = g .holding e .listing; steps = g .holding e .steps; power = g .holding e .power };
-}
+pub moved-is : (n : Numbers) (l : Live) {m : Numbers} → m ≡ withState n l → _≡_ {A = Said} (record { numbers = m; answer = A.Did (l .count) (l .total) }) (moved n l)
+moved-is n l e = ap (λ (m : Numbers). record { numbers = m; answer = A.Did (l .count) (l .total) }) e
 
 two-behind : (es : List Event) → drop 1 (drop 1 es) ≡ drop 2 es
 two-behind [] = refl
@@ -279,7 +268,7 @@ module _ (s : List ℕ) (number : ℕ) (n : Numbers) (names ar ls tb : List ℕ)
             record {
               answer = sym (ap (λ (b : Reply). b .answer) a);
               session = session-moved value l ∙ sym (ap (λ (b : Reply). b .session) a);
-              stored = stored-moved st′ l (r .stored) (h .1);
+              stored = stored-state st′ l (r .stored) (h .1);
             };
       })
 

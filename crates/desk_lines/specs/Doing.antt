@@ -28,6 +28,7 @@ use Rattle.replay_step.specs.declared.Stepped.{Stepped}
 use Rattle.replay_step.specs.Stepped.{lentDid, Steps}
 use Rattle.memory.specs.declared.Numbers.{Numbers}
 use Rattle.memory.specs.declared.Said.{Said}
+use Rattle.memory.specs.Memory.{withState}
 use Rattle.desk_lines.specs.declared.Found.{Found}
 use Rattle.desk_lines.specs.declared.Found.the-variants.{At, Refused}
 use Rattle.desk_lines.specs.Lines.{Agreed}
@@ -77,16 +78,4 @@ pub record StepsIn (ar listings table : List ℕ) (h : Head) (a v : ℕ) (os sta
 
 -- an accepted line: another state, and its count and total
 abbrev pub moved : Numbers → Live → Said
-moved n l = record {
-  numbers = record {
-    part = n .part;
-    total = n .total;
-    discount = n .discount;
-    reward = n .reward;
-    counts = n .counts;
-    head = n .head;
-    live = l;
-    held = n .held;
-  };
-  answer = A.Did (l .count) (l .total);
-}
+moved n l = record { numbers = withState n l; answer = A.Did (l .count) (l .total) }

@@ -310,21 +310,8 @@ fn carry_out(
 fn moved(n: Numbers, live: Live) -> Said
     ensures { λ r. ⌜ r ≡ moved n live ⌝ }
 {
-    let part = n.part;
-    let counts = n.counts;
-    let head = n.head;
-    let held = n.held;
     Said {
-        numbers: Numbers {
-            part: part,
-            total: n.total,
-            discount: n.discount,
-            reward: n.reward,
-            counts: counts,
-            head: head,
-            live: live,
-            held: held,
-        },
+        numbers: memory::with_state(n, live),
         answer: Answer::Did(live.count, live.total),
     }
 }

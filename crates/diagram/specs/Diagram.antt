@@ -1,7 +1,7 @@
 -- Diagrams as trees: meaning, equality, order and reduction (document 01, section 'Terms, labels, listings').
-use mathlib.Core.Bool.{Bool, true, false, _&&_, cond}
+use mathlib.Core.Bool.{Bool, false, _&&_, cond}
 use mathlib.Core.Logic.{_≢_}
-use Prim.Native.Nat.{ℕ, zero, suc, _≤_, _<_}
+use Prim.Native.Nat.{ℕ, suc, _≤_}
 use lib.Dec.{eqb}
 
 -- a leaf with its value, or a branch: a label, what is under true, what is under false. Sharing is no part of the meaning.
@@ -42,3 +42,8 @@ Ordered d = From 0 d
 abbrev pub Reduced : Diagram → Type 0
 Reduced (leaf v) = Unit {0}
 Reduced (branch l t f) = (t ≢ f) × Reduced t × Reduced f
+
+-- P holds of every label
+abbrev pub EveryLabel : (ℕ → Type 0) → Diagram → Type 0
+EveryLabel P (leaf v) = Unit {0}
+EveryLabel P (branch l t f) = P l × EveryLabel P t × EveryLabel P f

@@ -1,15 +1,15 @@
 -- Laws of diagrams as trees and of their rows.
 use mathlib.Core.Path.{_≡_, refl, ap, sym, _∙_}
 use mathlib.Core.Logic.{_≢_}
-use mathlib.Core.Bool.{Bool, true, false, _&&_, true≢false}
+use mathlib.Core.Bool.{true, false, true≢false}
 use mathlib.Core.List.{List, [], _∷_, _++_}
-use Prim.Native.Nat.{ℕ, zero, suc, _+_, _≤_, _<_}
+use Prim.Native.Nat.{ℕ, _+_, _≤_}
 use native.Mathlib.Omega.{arith}
 use lib.Dec.{eqb}
 use borrow.Author.Tests.{eqb-true, eq-eqb}
 use Rattle.basics.specs.Tests.{and-left, and-right}
 use Rattle.basics.specs.Members.{IsTest, mem}
-use Rattle.diagram.specs.Diagram.{Diagram, leaf, branch, same, From, Ordered, Reduced}
+use Rattle.diagram.specs.Diagram.{Diagram, leaf, branch, same, From}
 use Rattle.diagram.specs.Rows.{onto}
 
 pub same-eq : (a b : Diagram) → same a b ≡ true → a ≡ b

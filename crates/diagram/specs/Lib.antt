@@ -13,6 +13,7 @@
 --   From, Ordered == a child's label is greater than its parent's; From n: and every label is at least n
 --   Reduced == no branch has two equal children
 --   relabel == the labels changed by a function
+--   EveryLabel == a property of every label of a diagram
 --   onto, rows == the distinct parts of a diagram in the order in which a walk, true branch first, finishes them; behind rows that are there
 --   rowTree == the diagram of row k
 --
@@ -30,7 +31,7 @@
 --
 -- Definitions: variables
 --   occurs == a term stands in a label of the diagram
---   occurring, variables, minimums, pickList == those of n terms that occur; the variables, the minimum variables, ascending
+--   occurring, variables, minimums == those of n terms that occur; the variables, the minimum variables, ascending
 --   isPlain == a diagram without minimum variables
 --   closedFrom, closed == the used variables renamed to m, m + 1, .., the minimum variables to n, n + 1, ..; from the first of each kind on: closing up
 --   after == the second operand's variables follow after the first's, kind by kind: apart

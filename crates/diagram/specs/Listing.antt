@@ -1,6 +1,6 @@
 -- The listing of a diagram, and the diagram of a listing (document 01, section 'Terms, labels, listings').
 use mathlib.Core.Path.{_≡_}
-use mathlib.Core.Bool.{Bool, true, false}
+use mathlib.Core.Bool.{true, false}
 use mathlib.Core.List.{List, [], _∷_}
 use Prim.Native.Nat.{ℕ, zero, suc, pred, _≤_}
 use lib.ListN.{length}

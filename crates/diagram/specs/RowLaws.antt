@@ -142,9 +142,6 @@ onto-keeps-mem d y rs h = mem-grown same y rs (onto d rs) (onto-keeps d rs) h
 pub index-grown : (x : Diagram) (rs qs : List Diagram) → Grown rs qs → mem same x rs ≡ true → index x qs ≡ index x rs
 index-grown x rs qs g h = rw (g .is) (index-append x rs (g .more) h)
 
-pub onto-keeps-index : (d y : Diagram) (rs : List Diagram) → mem same y rs ≡ true → index y (onto d rs) ≡ index y rs
-onto-keeps-index d y rs h = index-grown y rs (onto d rs) (onto-keeps d rs) h
-
 -- what `onto` adds is a part of the diagram
 pub onto-from : (d y : Diagram) (rs : List Diagram) → mem same y (onto d rs) ≡ true → Either (mem same y rs) (isPart y d)
 unfolding isPart
@@ -291,9 +288,6 @@ kept-index-is rs k x z h e = rw (← e) (kept-index rs k z h)
 pub row-mem : (rs : List Diagram) (k : ℕ) (x : Diagram) → k < length rs → rowTree rs k ≡ x → mem same x rs ≡ true
 row-mem rs k x h e = rw (← e) (mem-getD rs k (leaf 0) h)
 
-pub index-inj : (x y : Diagram) (rs : List Diagram) → mem same x rs ≡ true → mem same y rs ≡ true → index x rs ≡ index y rs → x ≡ y
-index-inj x y rs p q e = sym (getD-index x rs (leaf 0) p) ∙ ap (λ k. rowTree rs k) e ∙ getD-index y rs (leaf 0) q
-
 -- the children of a row are rows, before it
 pub kept-children : (rs : List Diagram) (l : ℕ) (t f : Diagram) → Kept rs → mem same (branch l t f) rs ≡ true
     → Earlier rs (index (branch l t f) rs) t × Earlier rs (index (branch l t f) rs) f
@@ -356,9 +350,6 @@ part-rows x d p = nodup-le same diagram-test (rows x) (rows d) (kept-nodup (rows
     inner : Within same (rows x) (rows d)
     inner y h = kept-parts (rows d) x y (rows-kept d) (mem-rows d x ∙ p) (sym (mem-rows x y) ∙ h)
 
-pub part-trans : (x y d : Diagram) → isPart x y ≡ true → isPart y d ≡ true → isPart x d ≡ true
-part-trans x y d p q = sym (mem-rows d x) ∙ kept-parts (rows d) y x (rows-kept d) (mem-rows d y ∙ q) p
-
 pub onto-most : (d : Diagram) (rs : List Diagram) → Kept rs → length (onto d rs) ≤ length rs + length (rows d)
 onto-most d rs k =
     omega (arith, nodup-le same diagram-test (onto d rs) (rs ++ rows d) (kept-nodup (onto d rs) (onto-kept d rs k)) inner, length-append rs (rows d))
@@ -385,9 +376,3 @@ rows-some d = let z = rows-last d in omega (arith, ap length (z .is), length-app
 
 pub rows-root : (d : Diagram) → getD (rows d) (pred (length (rows d))) (leaf 0) ≡ d
 rows-root d = let z = rows-last d in rw (z .is) (getD-at (z .front) d [] (leaf 0) _ (omega (arith, length-append (z .front) (d ∷ []))))
-
-pub index-root : (d : Diagram) → index d (rows d) ≡ pred (length (rows d))
-index-root d =
-    let s = rows-some d in
-    let e = kept-index (rows d) (pred (length (rows d))) (rows-kept d) (omega arith) in
-    sym (ap (λ x. index x (rows d)) (rows-root d)) ∙ e

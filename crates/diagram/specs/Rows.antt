@@ -1,6 +1,6 @@
 -- The rows of a diagram: its distinct parts, in the order in which a walk from the root, true branch first, finishes them
 -- (document 01, section 'Terms, labels, listings').
-use mathlib.Core.Bool.{Bool, true, false}
+use mathlib.Core.Bool.{true, false}
 use mathlib.Core.List.{List, [], _∷_, _++_}
 use Rattle.basics.specs.Members.{mem}
 use Rattle.diagram.specs.Diagram.{Diagram, leaf, branch, same}

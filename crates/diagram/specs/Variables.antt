@@ -1,6 +1,6 @@
 -- The variables of a diagram, closing up and moving apart (document 01, section 'Combination'; kind by kind, document 02, L12).
-use mathlib.Core.Bool.{Bool, true, false, _||_}
-use mathlib.Core.List.{List, [], _∷_, _++_}
+use mathlib.Core.Bool.{Bool, false, _||_, cond}
+use mathlib.Core.List.{List, [], _∷_}
 use Prim.Native.Nat.{ℕ, zero, suc, _+_}
 use lib.ListN.{length}
 use lib.Dec.{eqb}
@@ -15,14 +15,10 @@ unfoldable pub occurs : List ℕ → ℕ → Diagram → Bool
 occurs ar t (leaf v) = false
 occurs ar t (branch l x y) = mem eqb t (termsOf ar (unpacked l)) || (occurs ar t x || occurs ar t y)
 
-abbrev pub pickList : Bool → List ℕ → List ℕ → List ℕ
-pickList true x y = x
-pickList false x y = y
-
 -- those of the n terms from t on that occur in d, ascending
 unfoldable pub occurring : List ℕ → Diagram → ℕ → ℕ → List ℕ
 occurring ar d t zero = []
-occurring ar d t (suc n) = pickList (occurs ar t d) (t ∷ occurring ar d (suc t) n) (occurring ar d (suc t) n)
+occurring ar d t (suc n) = cond (occurs ar t d) (t ∷ occurring ar d (suc t) n) (occurring ar d (suc t) n)
 
 -- the variables of d, ascending
 unfoldable pub variables : List ℕ → Diagram → List ℕ

@@ -28,12 +28,6 @@ grown-twice xs ys zs g h = record { more = g .more ++ h .more; is = h .is ∙ ap
 pub mem-grown : {A : Type 0} (eq : A → A → Bool) (x : A) (xs ys : List A) → Grown xs ys → mem eq x xs ≡ true → mem eq x ys ≡ true
 mem-grown eq x xs ys g h = rw (g .is, mem-append eq x xs (g .more)) (or-one _ _ h)
 
-pub getD-grown : {A : Type 0} (xs ys : List A) (d : A) (k : ℕ) → Grown xs ys → k < length xs → getD ys k d ≡ getD xs k d
-getD-grown xs ys d k g h = rw (g .is) (List·getD-append xs (g .more) d k h)
-
-pub length-grown : {A : Type 0} (xs ys : List A) → Grown xs ys → length xs ≤ length ys
-length-grown xs ys g = omega (arith, ap length (g .is), length-append xs (g .more))
-
 pub number-test : IsTest eqb
 number-test = record { sound = λ a b e. eqb-true a b e; complete = λ a. eq-eqb a a refl }
 

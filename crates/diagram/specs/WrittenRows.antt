@@ -7,8 +7,6 @@ use Prim.Native.Nat.{ℕ, zero, suc, _*_, _≤_, _<_}
 use native.Mathlib.Omega.{arith}
 use lib.ListN.{length, getD, take, length-append, length-map, List·getD-append}
 use lib.Seq.{getD-at, take-all, take-suc}
-use lib.Dec.{eqb}
-use borrow.Author.Tests.{eqb-true, eqb-false}
 use Rattle.basics.specs.Tests.{Flag, isTrue, isFalse, flag, Cmp, cmp, below, equal, above}
 use Rattle.basics.specs.Members.{mem}
 use Rattle.label.specs.Limits.{leafMark}
@@ -188,31 +186,3 @@ module _ (ws : List ℕ) (m : ℕ) (tree : ℕ → Diagram) (s : Shown ws m tree
 
   shown-earlier : (k j : ℕ) → k < m → j < k → Earlier (map tree (upTo m)) k (tree j)
   shown-earlier k j h i = record { is-row = shown-mem j (omega arith); before = rw (index-is ws m tree s j m (omega arith) (omega arith)) i }
-
-  pub shown-kept : Kept (map tree (upTo m))
-  shown-kept = record { distinct = d; children = c }
-    where
-      d : (a b : ℕ) → a < length (map tree (upTo m)) → b < length (map tree (upTo m)) → rowTree (map tree (upTo m)) a ≡ rowTree (map tree (upTo m)) b → a ≡ b
-      d a b h k e =
-          let x : a < m = omega (arith, shown-length) in
-          let y : b < m = omega (arith, shown-length) in
-          s .inj a b x y (sym (shown-at a x) ∙ e ∙ shown-at b y)
-
-      c : (k l : ℕ) (t f : Diagram) → k < length (map tree (upTo m)) → rowTree (map tree (upTo m)) k ≡ branch l t f
-          → Earlier (map tree (upTo m)) k t × Earlier (map tree (upTo m)) k f
-      c k l t f h e = go (flag (eqb (labelAt ws k) leafMark))
-        where
-          x : k < m
-          x = omega (arith, shown-length)
-
-          go : Flag (eqb (labelAt ws k) leafMark) → Earlier (map tree (upTo m)) k t × Earlier (map tree (upTo m)) k f
-          go (isTrue q) =
-              let w : leaf (highAt ws k) ≡ branch l t f = sym (s .leaves k x (eqb-true _ _ q)) ∙ sym (shown-at k x) ∙ e in
-              absurd (let z : _≡_ {A = ℕ} 0 1 = cc in omega arith)
-          go (isFalse q) =
-              let q′ = eqb-false _ _ q in
-              let w : branch (labelAt ws k) (tree (highAt ws k)) (tree (lowAt ws k)) ≡ branch l t f = sym (s .branches k x q′) ∙ sym (shown-at k x) ∙ e in
-              let p : tree (highAt ws k) ≡ t = cc in
-              let r : tree (lowAt ws k) ≡ f = cc in
-              let z = s .kids k x q′ in
-              (rw (← p) (shown-earlier k (highAt ws k) x (z .0)), rw (← r) (shown-earlier k (lowAt ws k) x (z .1)))

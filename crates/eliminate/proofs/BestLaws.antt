@@ -1,18 +1,17 @@
 -- Laws of reading tables and of the highest entry, in the words of the code.
-use mathlib.Core.Path.{_≡_, refl, ap, sym, _∙_}
-use mathlib.Core.Bool.{Bool, true, false, cond}
+use mathlib.Core.Path.{_≡_, refl, ap, _∙_}
+use mathlib.Core.Bool.{Bool, true, false}
 use mathlib.Core.List.{List}
-use Prim.Native.Nat.{ℕ, zero, suc, _+_, _-_, _*_, _^_, _≤_, _<_, max}
+use Prim.Native.Nat.{ℕ, _+_, _-_, _*_, _≤_, _<_, max}
 use native.Mathlib.Omega.{arith}
 use native.Mathlib.Numerals.{add-one}
 use lib.ListN.{length, getD}
 use Rattle.label.specs.Limits.{termEnd}
-use Rattle.elimination.specs.Elimination.{mostEntries}
 use Rattle.state.specs.Max.{maxTo}
 use Rattle.eliminate.specs.Masks.{namesOf, envOf, placeOf, decoded}
-use Rattle.eliminate.specs.PlaceLaws.{place-less, decoded-length, decoded-range}
-use Rattle.eliminate.specs.Calls.{Decodable, Placeable, Asked, tells, setAt, startAt, entryIn, lookIn, bestIn, Stored, Entering, Looking, Moved, Best}
-use Rattle.eliminate.proofs.SetLaws.{moved-none, moved-decode, within-names}
+use Rattle.eliminate.specs.PlaceLaws.{place-less, decoded-length}
+use Rattle.eliminate.specs.Calls.{Decodable, Placeable, tells, setAt, startAt, entryIn, lookIn, bestIn, Entering, Looking, Moved, Best}
+use Rattle.eliminate.proofs.SetLaws.{moved-none, moved-decode}
 
 -- ===== entry =====
 pub enter-place : {heads space env : List ℕ} {n i : ℕ} → Entering heads space env n i → Placeable env n (getD heads (i * 2) 0)

@@ -1,9 +1,9 @@
 -- Laws of working out a branch row, in the words of the code.
-use mathlib.Core.Path.{_≡_, refl, ap, ap₂, sym, _∙_, subst}
+use mathlib.Core.Path.{_≡_, refl, ap, sym, _∙_, subst}
 use mathlib.Core.Logic.{_≢_}
-use mathlib.Core.Bool.{Bool, true, false, not, _&&_}
+use mathlib.Core.Bool.{true, false}
 use mathlib.Core.List.{List}
-use Prim.Native.Nat.{ℕ, zero, suc, _+_, _-_, _*_, _^_, _≤_, _<_, min}
+use Prim.Native.Nat.{ℕ, suc, _+_, _-_, _*_, _^_, _≤_, _<_, min}
 use native.Mathlib.Omega.{arith}
 use native.Mathlib.Nat.{pow-le-pow-right}
 use lib.ListN.{length, getD}
@@ -18,21 +18,19 @@ use Rattle.diagram.specs.Validity.{BranchRow}
 use Rattle.diagram.specs.RowDiagrams.{branch-row}
 use Rattle.diagram.specs.DiagramOfListing.{valid-rows}
 use Rattle.rename.specs.Ascending.{Ascending}
-use Rattle.state.specs.State.{State, Fits}
+use Rattle.state.specs.State.{State}
 use Rattle.elimination.specs.Tables as T
 use Rattle.elimination.specs.Tables.{leafTable, entries, aggregateEntries}
 use Rattle.elimination.specs.Elimination.{labelVariables, untested, rowJoin, rowUnion, rowDrops, rowTable, tables, rowEntries, entriesTo, mostEntries}
 use Rattle.elimination.specs.RowLaws.{table-at}
 use Rattle.elimination.specs.CountLaws.{entries-step}
-use Rattle.eliminate.specs.declared.Worked.{Worked}
 use Rattle.eliminate.specs.declared.Worked.the-variants.{Table, Full}
-use Rattle.eliminate.specs.Masks.{namesOf, envOf}
+use Rattle.eliminate.specs.Masks.{namesOf}
 use Rattle.eliminate.specs.MaskLaws.{of-ascending, of-and}
-use Rattle.eliminate.specs.Calls.{Labelled, Asked, Countable, Looking, Filling, Stored, setAt, startAt, Moved}
-use Rattle.eliminate.specs.Above.{Above}
+use Rattle.eliminate.specs.Calls.{Labelled, Asked, Filling, setAt, startAt}
 use Rattle.eliminate.specs.Stores.{Said, Holds, unionOf, Filled}
 use Rattle.eliminate.specs.Counts.{rowTotal, Tells, exactly, too-many, Rowing, Rowed}
-use Rattle.eliminate.specs.Rows.{Ready, Tabled, Branching, Branched}
+use Rattle.eliminate.specs.Rows.{Tabled, Branching, Branched}
 use Rattle.eliminate.proofs.FillLaws.{fits-moved}
 use Rattle.eliminate.proofs.CountLaws.{mem-rest, part-length, part-size}
 use Rattle.eliminate.proofs.RowLaws.{union-names}

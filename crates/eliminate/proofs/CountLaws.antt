@@ -1,34 +1,34 @@
 -- Laws of counting a row's entries, in the words of the code.
-use mathlib.Core.Path.{_≡_, refl, ap, ap₂, sym, _∙_, subst}
+use mathlib.Core.Path.{_≡_, refl, ap, ap₂, sym, _∙_}
 use mathlib.Core.Bool.{Bool, true, false, not, _&&_, _||_, cond}
 use mathlib.Core.List.{List, [], _∷_}
 use Prim.Native.Nat.{ℕ, zero, suc, _+_, _-_, _*_, _/_, _%_, _^_, _≤_, _<_, min}
 use native.Mathlib.Omega.{arith}
-use native.Mathlib.Nat.{pow-zero, pow-succ', mul-one, mul-comm, mul-assoc, mul-div-cancel, pow-le-pow-right, mul-le-mul-left, mul-le-mul-right, le-trans, div-le-self}
-use lib.ListN.{length, getD}
+use native.Mathlib.Nat.{pow-succ', mul-comm, mul-assoc, mul-div-cancel, pow-le-pow-right, mul-le-mul-left, mul-le-mul-right, le-trans, div-le-self}
+use lib.ListN.{length}
 use lib.Bits.{bitAnd, bitOr, bitXor}
 use lib.Pow.{pow-add}
 use lib.Dec.{eqb}
-use borrow.Author.Tests.{eqb-true, eq-eqb}
+use borrow.Author.Tests.{eqb-true}
 use Rattle.basics.specs.Tests.{Flag, isTrue, isFalse, flag, and-left, or-one, or-other}
-use Rattle.basics.specs.Members.{mem, nodup-le, clash}
+use Rattle.basics.specs.Members.{mem, nodup-le}
 use Rattle.label.specs.Limits.{firstVariable, variableCount, firstMinimum}
 use Rattle.diagram.specs.WordLaws.{number-test}
 use Rattle.rename.specs.Ascending.{Ascending}
-use Rattle.rename.specs.AscendingLaws.{ascending-one, ascending-weaken, ascending-not, ascending-nodup}
-use Rattle.state.specs.State.{Atomic, atomOf, State}
+use Rattle.rename.specs.AscendingLaws.{ascending-one, ascending-weaken, ascending-nodup}
+use Rattle.state.specs.State.{atomOf, State}
 use Rattle.state.specs.Terms.{args}
 use Rattle.state.specs.Highest.{varsOf}
-use Rattle.elimination.specs.Tables.{Table, sumTo, entries, join, unite, aggregateEntries}
+use Rattle.elimination.specs.Tables.{Table, sumTo, entries, join, aggregateEntries}
 use Rattle.elimination.specs.Elimination.{labelVariables, mostEntries}
 use Rattle.elimination.specs.TableLaws.{Full, Named, union-full, join-named, unite-named}
 use Rattle.elimination.specs.CountLaws.{labelCases, lacking, full-entries, join-entries}
 use Rattle.elimination.specs.CaseLaws.{cases-split, geometric, aggregate-sum}
 use Rattle.eliminate.specs.Masks.{namesOf, decoded}
 use Rattle.eliminate.specs.MaskLaws.{names-zero, apart, of-ascending, of-and, of-xor, of-or}
-use Rattle.eliminate.specs.Calls.{tells, casesOf, Countable, Moved, Counted}
+use Rattle.eliminate.specs.Calls.{tells, casesOf, Counted}
 use Rattle.eliminate.specs.Stores.{Said, unionOf}
-use Rattle.eliminate.specs.Counts.{Shrinks, Shrunk, rowTotal, Tells, exactly, too-many, Rowing, Rowed}
+use Rattle.eliminate.specs.Counts.{Shrinks, Shrunk, rowTotal, exactly, too-many, Rowing, Rowed}
 use Rattle.eliminate.proofs.DigitLaws.{onwards, none-onwards, odd-onwards, even-onwards}
 use Rattle.eliminate.proofs.SetLaws.{moved-none}
 use Rattle.eliminate.proofs.RowLaws.{cases-are, union-names}

@@ -1,13 +1,12 @@
 -- Laws of decode and place, in the words of the code.
 use mathlib.Core.Path.{_≡_, refl, ap, sym, _∙_}
-use mathlib.Core.Bool.{true, false}
 use mathlib.Core.List.{List, [], _∷_}
-use Prim.Native.Nat.{ℕ, zero, suc, _+_, _-_, _*_, _/_, _%_, _^_, _≤_, _<_}
+use Prim.Native.Nat.{ℕ, suc, _+_, _-_, _*_, _/_, _%_, _^_, _≤_, _<_}
 use native.Mathlib.Omega.{arith}
-use native.Mathlib.Nat.{pow-zero, pow-succ', mul-one, mul-assoc, mul-add, add-assoc, one-le-pow, mul-le-mul-left}
+use native.Mathlib.Nat.{pow-succ', mul-assoc, mul-add, add-assoc, one-le-pow, mul-le-mul-left}
 use lib.ListN.{length, getD, set, length-set}
 use borrow.Author.Tests.{eq-eqb, ne-eqb}
-use Rattle.label.specs.Limits.{firstVariable, firstMinimum, termEnd, variableCount}
+use Rattle.label.specs.Limits.{firstVariable, firstMinimum, termEnd}
 use Rattle.elimination.specs.Elimination.{mostEntries}
 use Rattle.eliminate.specs.Masks.{namesFrom, namesOf, envOf, placeOf, decoded}
 use Rattle.eliminate.specs.MaskLaws.{names-step, names-zero}

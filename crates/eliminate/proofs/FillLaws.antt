@@ -1,32 +1,29 @@
 -- Laws of writing a table, in the words of the code: the highest entry of the union is the aggregated value.
 use mathlib.Core.Path.{_≡_, refl, ap, ap₂, sym, _∙_, subst, fun-ext}
-use mathlib.Core.Bool.{Bool, true, false, not, _&&_, cond}
-use mathlib.Core.List.{List, [], _∷_, map}
-use Prim.Native.Nat.{ℕ, zero, suc, _+_, _-_, _*_, _^_, _≤_, _<_, max}
+use mathlib.Core.Bool.{true, false}
+use mathlib.Core.List.{List, map}
+use Prim.Native.Nat.{ℕ, zero, suc, _+_, _-_, _^_, _≤_, _<_}
 use native.Mathlib.Omega.{arith}
-use native.Mathlib.Nat.{one-le-pow}
 use lib.ListN.{length, getD, set, length-set}
 use lib.Seq.{getD-set-same, getD-set-other}
 use lib.Dec.{eqb}
-use borrow.Author.Tests.{eqb-true}
 use Rattle.basics.specs.Tests.{and-left, and-right, Flag, isTrue, isFalse, flag, Cmp, below, equal, above, cmp}
-use Rattle.basics.specs.Members.{mem, clash}
+use Rattle.basics.specs.Members.{mem}
 use Rattle.label.specs.Limits.{firstVariable, termEnd}
 use Rattle.label.specs.Labels.{predicateOf, unpacked, termsOf}
 use Rattle.rename.specs.AscendingLaws.{ascending-above, ascending-not}
-use Rattle.state.specs.Max.{maxTo, IsMax}
 use Rattle.state.specs.MaxLaws.{maxTo-is, max-one}
 use Rattle.state.specs.State.{atomOf, State, Good, truth, holds, Fits}
 use Rattle.state.specs.ValueLaws.{by-low}
 use Rattle.state.specs.Lent.{saidBy}
-use Rattle.elimination.specs.Tables.{Table, join, unite, aggregateAll}
+use Rattle.elimination.specs.Tables.{Table, join, aggregateAll}
 use Rattle.elimination.specs.NameLaws.{Agree}
 use Rattle.elimination.specs.AboveLaws.{not-true}
 use Rattle.elimination.specs.TableLaws.{Sees, Full, join-sees, unite-sees, aggregateAll-sees, mem-aggregateAll, union-full, union-value, aggregate-hit, aggregate-bound}
 use Rattle.eliminate.specs.Masks.{namesOf, envOf, placeOf, decoded}
 use Rattle.eliminate.specs.MaskLaws.{of-ascending}
-use Rattle.eliminate.specs.PlaceLaws.{place-less, place-one, place-decoded, decoded-length, decoded-other, decoded-range}
-use Rattle.eliminate.specs.Calls.{Asked, objectsOf, lentTruth, tells, setAt, startAt, entryIn, lookIn, bestIn, Stored, Looking, Moved, Best, Decodable, Filling}
+use Rattle.eliminate.specs.PlaceLaws.{place-less, place-one, place-decoded, decoded-length, decoded-other}
+use Rattle.eliminate.specs.Calls.{objectsOf, lentTruth, tells, setAt, startAt, entryIn, lookIn, bestIn, Stored, Looking, Moved, Best, Decodable, Filling}
 use Rattle.eliminate.specs.Stores.{Said, Holds, unionOf, Filled}
 use Rattle.eliminate.proofs.SetLaws.{within-names, moved-none, moved-decode}
 

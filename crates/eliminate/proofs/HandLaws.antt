@@ -2,19 +2,18 @@
 use mathlib.Core.Path.{_≡_, refl, ap, sym, _∙_}
 use mathlib.Core.Bool.{Bool, true, false, not, _&&_, _||_}
 use mathlib.Core.List.{List}
-use Prim.Native.Nat.{ℕ, zero, suc, _+_, _-_, _*_, _/_, _≤_, _<_}
+use Prim.Native.Nat.{ℕ, suc, _+_, _-_, _*_, _≤_, _<_}
 use native.Mathlib.Omega.{arith}
 use lib.ListN.{length, getD, set, length-set}
 use lib.Seq.{getD-set-same, getD-set-other}
 use lib.Bits.{bitOr}
 use lib.Dec.{eqb}
-use borrow.Author.Tests.{eqb-true, eqb-false, eq-eqb, ne-eqb}
+use borrow.Author.Tests.{eqb-true, eqb-false, eq-eqb}
 use Rattle.basics.specs.Tests.{and-left, and-right, Flag, isTrue, isFalse, flag, Cmp, below, equal, above, cmp, Either, one, other, either, or-one, or-other}
 use Rattle.basics.specs.Members.{mem, clash}
 use Rattle.label.specs.Limits.{leafMark}
-use Rattle.label.specs.Labels.{isLabel}
 use Rattle.diagram.specs.Words.{labelAt, highAt, lowAt, rowCount}
-use Rattle.diagram.specs.Validity.{Valid, BranchRow}
+use Rattle.diagram.specs.Validity.{BranchRow}
 use Rattle.diagram.specs.RowDiagrams.{branch-row}
 use Rattle.diagram.specs.DiagramOfListing.{valid-rows}
 use Rattle.elimination.specs.Elimination.{labelVariables, hasEdge, testedAbove}
@@ -59,9 +58,6 @@ side ws i c d = go (either (eqb (highAt ws i) c) (eqb (lowAt ws i) c) (and-right
     go (other q) = low-side (sym (eqb-true (lowAt ws i) c q))
 
 module _ {ar ws sets : List ℕ} {i : ℕ} (h : Handing ar ws sets i) where
-  pub hand-words : i * 3 + 3 ≤ length ws
-  hand-words = let r = h .row in let w = h .sets .valid .whole in omega arith
-
   pub hand-leaf : getD ws (i * 3) 0 ≡ leafMark → Above ar ws sets i
   unfolding labelAt
   hand-leaf e = record {

@@ -3,10 +3,10 @@ use mathlib.Core.Path.{_≡_, refl, ap, ap₂, sym, _∙_, subst}
 use mathlib.Core.Logic.{_≢_}
 use mathlib.Core.Bool.{Bool, true, false, not, _&&_, cond}
 use mathlib.Core.List.{List, [], _∷_}
-use Prim.Native.Nat.{ℕ, zero, suc, _+_, _≤_, _<_}
+use Prim.Native.Nat.{ℕ, suc, _+_, _<_}
 use native.Mathlib.Omega.{arith}
 use lib.ListN.{getD}
-use lib.Bits.{bitAnd, bitOr, bitXor}
+use lib.Bits.{bitAnd, bitXor}
 use lib.Dec.{eqb}
 use Rattle.basics.specs.Members.{mem, clash}
 use Rattle.label.specs.Limits.{leafMark, firstVariable}
@@ -14,18 +14,17 @@ use Rattle.diagram.specs.Words.{labelAt, highAt, lowAt, rowCount}
 use Rattle.diagram.specs.RowLaws.{same-tests}
 use Rattle.rename.specs.Ascending.{Ascending}
 use Rattle.rename.specs.AscendingLaws.{ascending-one, ascending-weaken}
-use Rattle.state.specs.State.{State, Good, Fits}
-use Rattle.elimination.specs.Tables.{Table, leafTable, join, unite, aggregateAll}
+use Rattle.state.specs.State.{State}
+use Rattle.elimination.specs.Tables.{Table, leafTable, join, aggregateAll}
 use Rattle.elimination.specs.Elimination.{testedAbove, untested, rowJoin, rowUnion, rowDrops, rowTable}
 use Rattle.elimination.specs.AboveLaws.{tested-from, mem-untested}
-use Rattle.elimination.specs.TableLaws.{Full, Sees, Named, mem-aggregateAll, aggregateAll-named, aggregateAll-full, aggregateAll-sees, union-full, join-sees, unite-sees}
+use Rattle.elimination.specs.TableLaws.{mem-aggregateAll, aggregateAll-named, aggregateAll-full, aggregateAll-sees, union-full, join-sees, unite-sees}
 use Rattle.elimination.specs.RowLaws.{row-branch}
 use Rattle.eliminate.specs.Masks.{namesOf, placeOf}
 use Rattle.eliminate.specs.MaskLaws.{of-ascending, of-and}
 use Rattle.eliminate.specs.Calls.{setAt, startAt}
 use Rattle.eliminate.specs.Above.{Above}
 use Rattle.eliminate.specs.Stores.{Said, Holds, unionOf, Filled}
-use Rattle.eliminate.proofs.FillLaws.{Covers}
 use Rattle.eliminate.proofs.CountLaws.{mem-rest}
 
 -- when all rows have handed on, the sets are what is tested above

@@ -1,33 +1,32 @@
 -- Laws of what a row counts, in the words of the code: the cases of its label, its union's names, and the names that its label lacks.
 use mathlib.Core.Path.{_≡_, refl, ap, ap₂, sym, _∙_, fun-ext, subst}
-use mathlib.Core.Bool.{Bool, true, false, not, _&&_, _||_, cond}
+use mathlib.Core.Bool.{Bool, true, _||_, cond}
 use mathlib.Core.List.{List, [], _∷_}
 use Prim.Native.Nat.{ℕ, zero, suc, _+_, _*_, _/_, _%_, _^_, _≤_, _<_}
 use native.Mathlib.Omega.{arith}
 use native.Mathlib.Nat.{pow-zero, pow-succ', mul-comm, mod-eq-of-lt, div-eq-of-lt, add-mul-mod-self-right, add-mul-div-right, add-comm}
-use lib.ListN.{length, getD, set, length-set}
-use lib.Bits.{bitAnd, bitOr, bitXor}
+use lib.ListN.{length, set}
+use lib.Bits.{bitOr}
 use lib.Dec.{eqb}
 use borrow.Author.Tests.{eq-eqb}
-use Rattle.basics.specs.Tests.{Flag, isTrue, isFalse, flag, Either, one, other, either, or-one, or-other}
+use Rattle.basics.specs.Tests.{Either, one, other, either, or-one, or-other}
 use Rattle.basics.specs.Members.{mem, clash}
 use Rattle.label.specs.Limits.{firstVariable, termEnd}
 use Rattle.rename.specs.Ascending.{Ascending}
-use Rattle.rename.specs.AscendingLaws.{ascending-one, ascending-above, ascending-weaken, ascending-not}
-use Rattle.state.specs.State.{Atomic, atomOf, State, holds, fixed, Fits}
+use Rattle.rename.specs.AscendingLaws.{ascending-one, ascending-above}
+use Rattle.state.specs.State.{atomOf, State, holds, fixed}
 use Rattle.state.specs.Terms.{args}
 use Rattle.state.specs.ValueLaws.{by-low, low-lt}
-use Rattle.state.specs.Highest.{put, varsOf, start}
-use Rattle.elimination.specs.Tables.{Table, sumTo, countChoices, isCase, join, unite}
+use Rattle.state.specs.Highest.{varsOf, start}
+use Rattle.elimination.specs.Tables.{Table, sumTo, countChoices, join, unite}
 use Rattle.elimination.specs.Elimination.{labelVariables}
 use Rattle.elimination.specs.NameLaws.{Whence, new, old, in-varsOf, varsOf-in, varsOf-keeps, varsOf-ascending, holds-agree}
-use Rattle.elimination.specs.TableLaws.{Named}
-use Rattle.elimination.specs.CountLaws.{sum-const, labelCases, lacking}
+use Rattle.elimination.specs.CountLaws.{labelCases}
 use Rattle.elimination.specs.CaseLaws.{sum-swap, count-agree}
 use Rattle.eliminate.specs.Masks.{namesOf, envOf, decoded}
-use Rattle.eliminate.specs.MaskLaws.{of-ascending, of-or, of-and, of-xor}
+use Rattle.eliminate.specs.MaskLaws.{of-ascending, of-or}
 use Rattle.eliminate.specs.PlaceLaws.{Within, within-set, env-set}
-use Rattle.eliminate.specs.Calls.{tells, casesOf}
+use Rattle.eliminate.specs.Calls.{casesOf}
 use Rattle.eliminate.specs.Stores.{Said, unionOf}
 use Rattle.eliminate.proofs.SetLaws.{within-names}
 use Rattle.eliminate.proofs.FillLaws.{tells-holds}

@@ -1,8 +1,8 @@
 -- Laws of the sets of variables that the code makes, of their sizes, and of the cases of a label, in the words of the code.
 use mathlib.Core.Path.{_≡_, refl, ap, sym, _∙_, subst}
-use mathlib.Core.Bool.{Bool, true, false, _&&_, _||_, cond, and-true}
+use mathlib.Core.Bool.{Bool, true, false, cond}
 use mathlib.Core.List.{List, [], _∷_}
-use Prim.Native.Nat.{ℕ, zero, suc, _+_, _-_, _*_, _/_, _%_, _^_, _≤_, _<_, min}
+use Prim.Native.Nat.{ℕ, suc, _+_, _-_, _*_, _/_, _%_, _^_, _≤_, _<_, min}
 use native.Mathlib.Omega.{arith}
 use native.Mathlib.Nat.{pow-zero, pow-succ', mul-assoc, one-le-pow, mul-le-mul-left, mul-le-mul-right, le-trans}
 use native.Mathlib.Numerals.{add-one}
@@ -11,18 +11,16 @@ use lib.Pow.{shl-exact}
 use lib.Bits.{bitOr}
 use lib.Dec.{eqb, leb}
 use borrow.Author.Tests.{eqb-true, leb-true, le-leb, lt-leb, eq-eqb}
-use Rattle.basics.specs.Tests.{and-left, and-right, Flag, isTrue, isFalse, flag, Cmp, below, equal, above, cmp, Either, one, other, either, or-one, or-other}
+use Rattle.basics.specs.Tests.{and-left, and-right, Cmp, below, equal, above, cmp, Either, one, other, either, or-one, or-other}
 use Rattle.basics.specs.Members.{mem, clash}
-use Rattle.label.specs.Limits.{firstVariable, variableCount, firstMinimum, termEnd, mostPlaces, predicateCount}
-use Rattle.label.specs.Labels.{predicateOf, placeAt, placesOf, unpacked, termsOf}
-use Rattle.label.specs.LabelLaws.{place-of}
+use Rattle.label.specs.Limits.{firstVariable, firstMinimum, termEnd, mostPlaces}
+use Rattle.label.specs.Labels.{predicateOf, placeAt, unpacked, termsOf}
 use Rattle.rename.specs.AscendingLaws.{ascending-one, mem-place}
 use Rattle.state.specs.State.{atomOf}
-use Rattle.state.specs.Highest.{varsOf}
 use Rattle.elimination.specs.Tables.{sumTo}
 use Rattle.elimination.specs.Elimination.{labelVariables, mostEntries}
 use Rattle.elimination.specs.NameLaws.{Whence, new, old, in-varsOf, varsOf-in, varsOf-ascending}
-use Rattle.eliminate.specs.Masks.{namesFrom, namesOf, envOf, decoded}
+use Rattle.eliminate.specs.Masks.{namesOf, envOf, decoded}
 use Rattle.eliminate.specs.MaskLaws.{names-zero, of-zero, of-ascending, of-below, of-or, of-one}
 use Rattle.eliminate.specs.PlaceLaws.{Within, decoded-length, decoded-other, decoded-range, decoded-over}
 use Rattle.eliminate.specs.Calls.{Decodable, Asked, One, Labelled, tells, casesOf, Countable, Moved, Counted}

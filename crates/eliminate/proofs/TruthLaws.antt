@@ -1,22 +1,21 @@
 -- Laws of what a label says, in the words of the code.
 use mathlib.Core.Path.{_≡_, refl, ap, sym, _∙_}
-use mathlib.Core.Bool.{Bool, true, false, _&&_}
-use mathlib.Core.List.{List, [], _∷_, map}
-use Prim.Native.Nat.{ℕ, zero, suc, _+_, _-_, _*_, _/_, _≤_, _<_}
+use mathlib.Core.Bool.{Bool, true, false}
+use mathlib.Core.List.{List, [], _∷_}
+use Prim.Native.Nat.{ℕ, zero, suc, _+_, _-_, _*_, _≤_, _<_}
 use native.Mathlib.Omega.{arith}
 use lib.ListN.{length, getD, take, length-map}
 use lib.Seq.{getD-take, length-take-le, ext-getD}
 use lib.Dec.{eqb, leb}
 use borrow.Author.Tests.{eq-eqb, ne-eqb, eqb-true, leb-true}
 use Rattle.basics.specs.Tests.{and-left, and-right, Cmp, below, equal, above, cmp}
-use Rattle.basics.specs.Members.{clash}
 use Rattle.label.specs.Limits.{termEnd, mostPlaces, predicateCount, equality, equalityArity}
-use Rattle.label.specs.Labels.{areArities, allAtMost, isLabel, predicateOf, placeAt, placesOf, unpacked, termsOf}
+use Rattle.label.specs.Labels.{areArities, allAtMost, predicateOf, placeAt, placesOf, unpacked, termsOf}
 use Rattle.label.specs.LabelLaws.{label-fits, place-of, place-end}
 use Rattle.diagram.specs.Words.{equalLists}
 use Rattle.diagram.specs.WordLaws.{getD-map, lists-equal, equal-lists}
 use Rattle.state.specs.State.{equated}
-use Rattle.state.specs.Lent.{factWords, factCount, predicateAt, objectsAt, saysFact, someBelow, saidBy}
+use Rattle.state.specs.Lent.{factWords, factCount, predicateAt, objectsAt, saysFact, saidBy}
 use Rattle.state.specs.LentLaws.{some-made, some-none, objects-length as row-length, object-at}
 use Rattle.eliminate.specs.Masks.{envOf}
 use Rattle.eliminate.specs.Calls.{Labelled, Asked, objectsOf, lentTruth, tells}

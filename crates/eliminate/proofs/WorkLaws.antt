@@ -1,8 +1,7 @@
 -- Laws of working out one row after the other, in the words of the code.
-use mathlib.Core.Path.{_≡_, refl, ap, ap₂, sym, _∙_, subst}
-use mathlib.Core.Logic.{_≢_}
+use mathlib.Core.Path.{_≡_, refl, ap, sym, _∙_, subst}
 use mathlib.Core.List.{List}
-use Prim.Native.Nat.{ℕ, zero, suc, _+_, _-_, _*_, _^_, _≤_, _<_}
+use Prim.Native.Nat.{ℕ, suc, _+_, _-_, _*_, _^_, _≤_, _<_}
 use native.Mathlib.Omega.{arith}
 use native.Mathlib.Nat.{pow-zero}
 use native.Mathlib.Numerals.{add-one}
@@ -15,7 +14,7 @@ use Rattle.diagram.specs.Words.{labelAt, highAt, rowCount}
 use Rattle.state.specs.State.{State, Fits}
 use Rattle.elimination.specs.Tables as T
 use Rattle.elimination.specs.Tables.{leafTable, entries}
-use Rattle.elimination.specs.Elimination.{rowTable, tables, rowEntries, entriesTo, allEntries, mostEntries}
+use Rattle.elimination.specs.Elimination.{rowTable, tables, rowEntries, entriesTo, mostEntries}
 use Rattle.elimination.specs.TableLaws.{leaf-full, leaf-sees}
 use Rattle.elimination.specs.RowLaws.{row-leaf}
 use Rattle.elimination.specs.CountLaws.{entries-step, entries-passed, leaf-entries}
@@ -26,7 +25,7 @@ use Rattle.eliminate.specs.declared.Reached.the-variants.{At, Over}
 use Rattle.eliminate.specs.Masks.{namesOf, envOf, placeOf}
 use Rattle.eliminate.specs.MaskLaws.{of-zero}
 use Rattle.eliminate.specs.Calls.{setAt, startAt, Stored}
-use Rattle.eliminate.specs.Stores.{Said, Holds}
+use Rattle.eliminate.specs.Stores.{Holds}
 use Rattle.eliminate.specs.Rows.{Ready, Tabled, Branching, Branched, Working, RowWorked, Finished}
 use Rattle.eliminate.proofs.FillLaws.{holds-before}
 
@@ -88,12 +87,6 @@ leaf-held s os heads space ws i next h r = record {
 module _ {ar ws sets heads space env : List ℕ} {n i next used : ℕ} (w : Working ar ws sets heads space env n i next used) where
   pub work-head : i * 2 + 2 ≤ length heads
   work-head = let r = w .row in let q = w .ready .heads-room in omega arith
-
-  pub work-words : i * 3 + 3 ≤ length ws
-  work-words = let r = w .row in let q = w .ready .sets .valid .whole in omega arith
-
-  pub work-space : next ≤ mostEntries
-  work-space = let a = w .ready .next-used in let b = w .ready .used-few in omega arith
 
   module _ (k c used′ : ℕ) (space′ env′ : List ℕ) (size-is : c ≡ n ^ length (namesOf k)) (fits : next + c ≤ used′) (few : used′ ≤ mostEntries)
       (space-kept : length space′ ≡ length space) (env-kept : length env′ ≡ length env) (range : (t : ℕ) → envOf env′ t < n) where

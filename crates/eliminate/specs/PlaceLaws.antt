@@ -1,14 +1,14 @@
 -- Laws of places: each choice has one place below n to the names, and each such place one choice.
 use mathlib.Core.Path.{_≡_, refl, ap, ap₂, sym, _∙_, fun-ext}
-use mathlib.Core.Bool.{Bool, true, false, _||_}
+use mathlib.Core.Bool.{true, false}
 use mathlib.Core.List.{List, [], _∷_}
 use Prim.Native.Nat.{ℕ, zero, suc, _+_, _*_, _/_, _%_, _^_, _≤_, _<_}
 use native.Mathlib.Omega.{arith}
-use native.Mathlib.Nat.{pow-zero, pow-succ', mod-lt, mod-eq-of-lt, div-eq-of-lt, mod-add-div, add-mul-mod-self-left, add-mul-div-left, div-lt-iff-lt-mul, mul-comm, mul-le-mul-left, le-trans}
-use lib.ListN.{length, getD, set, length-set}
+use native.Mathlib.Nat.{pow-zero, pow-succ', mod-lt, mod-eq-of-lt, div-eq-of-lt, mod-add-div, add-mul-mod-self-left, add-mul-div-left, div-lt-iff-lt-mul, mul-comm, mul-le-mul-left}
+use lib.ListN.{length, set, length-set}
 use lib.Seq.{getD-set-same, getD-set-other, set-set}
 use lib.Dec.{eqb}
-use borrow.Author.Tests.{eqb-true, eqb-false, eq-eqb, ne-eqb}
+use borrow.Author.Tests.{eqb-true, eqb-false, eq-eqb}
 use Rattle.basics.specs.Tests.{Flag, isTrue, isFalse, flag, Either, one, other, either, or-one, or-other}
 use Rattle.basics.specs.Members.{mem, clash}
 use Rattle.rename.specs.Ascending.{Ascending}

@@ -4,9 +4,8 @@ use mathlib.Core.Logic.{_≢_}
 use mathlib.Core.List.{List}
 use Prim.Native.Nat.{ℕ, suc, _+_, _*_, _^_, _≤_, _<_}
 use lib.ListN.{length, getD}
-use lib.Bits.{bitAnd, bitOr, bitXor}
 use Rattle.label.specs.Limits.{termEnd, leafMark}
-use Rattle.diagram.specs.Words.{labelAt, highAt, lowAt, rowCount}
+use Rattle.diagram.specs.Words.{labelAt, rowCount}
 use Rattle.state.specs.State.{State, Fits}
 use Rattle.elimination.specs.Elimination.{rowTable, tables, entriesTo, allEntries, mostEntries}
 use Rattle.eliminate.specs.declared.Worked.{Worked}

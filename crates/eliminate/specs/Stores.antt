@@ -9,7 +9,7 @@ use Rattle.basics.specs.Members.{mem}
 use Rattle.state.specs.State.{atomOf, State, Good, Fits}
 use Rattle.state.specs.Lent.{saidBy}
 use Rattle.elimination.specs.Tables.{Table, join, unite, aggregateAll}
-use Rattle.elimination.specs.TableLaws.{Sees, Full, Named}
+use Rattle.elimination.specs.TableLaws.{Sees, Full}
 use Rattle.eliminate.specs.Masks.{namesOf, envOf, placeOf}
 use Rattle.eliminate.specs.Calls.{setAt, startAt}
 

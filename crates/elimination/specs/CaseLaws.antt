@@ -1,8 +1,8 @@
 -- Laws of the cases of a label and of the entries of aggregations, as the code counts them.
 use mathlib.Core.Path.{_≡_, refl, ap, ap₂, sym, _∙_, fun-ext}
-use mathlib.Core.Bool.{Bool, true, false, not, _&&_, _||_, cond}
+use mathlib.Core.Bool.{Bool, true, false, not, cond}
 use mathlib.Core.List.{List, [], _∷_}
-use Prim.Native.Nat.{ℕ, zero, suc, _+_, _*_, _^_, _≤_, _<_}
+use Prim.Native.Nat.{ℕ, zero, suc, _+_, _*_, _^_, _<_}
 use native.Mathlib.Omega.{arith}
 use native.Mathlib.Nat.{pow-zero, pow-succ', mul-comm}
 use lib.ListN.{length}
@@ -16,8 +16,8 @@ use Rattle.state.specs.State.{Atomic, State, holds}
 use Rattle.state.specs.Terms.{args}
 use Rattle.state.specs.Highest.{put, varsOf, start}
 use Rattle.state.specs.HighestLaws.{put-same, put-other, by-eq}
-use Rattle.elimination.specs.Tables.{Table, sumTo, countChoices, entries, isCase, without, aggregate, aggregateEntries}
-use Rattle.elimination.specs.NameLaws.{without-ascending, mem-without, length-without, holds-agree}
+use Rattle.elimination.specs.Tables.{Table, sumTo, countChoices, without, aggregate, aggregateEntries}
+use Rattle.elimination.specs.NameLaws.{without-ascending, mem-without, length-without}
 use Rattle.elimination.specs.TableLaws.{Full, Named, aggregate-full}
 use Rattle.elimination.specs.CountLaws.{sum-const, full-entries, labelCases}
 

@@ -17,7 +17,7 @@ use Rattle.events.specs.declared.Event.the-variants.{Name, Variable, Par
 use Rattle.events.specs.declared.Seen.{Seen}
 use Rattle.events.specs.declared.Word.{Word}
 use Rattle.events.specs.FrontLaws.{front-moves}
-use Rattle.events.specs.Front.{space, behind, spaceBit, spaces, pickSeen, seen, nameKey, wordAt, isIf, atomFront, numberFront, frontOf, nextAt}
+use Rattle.events.specs.Front.{space, behind, spaceBit, spaces, seen, nameKey, wordAt, isIf, atomFront, numberFront, frontOf, nextAt}
 
 module _ (s : List ℕ) (i : ℕ) where
   pub spaces-stop : i < length s → getD s i 0 ≡ 41 → spaces (drop i s) ≡ 0
@@ -112,7 +112,7 @@ module _ (s : List ℕ) {b : ℕ} {l : Bool} (h : 1 < length s) (p : b ≡ getD 
 
           module _ (n3 : b ≡ 37 → ⊥) where
             -- past the marks: what stands at a bracket, and at another byte
-            unmarked : frontOf s ≡ pickSeen (eqb b 40) (pickSeen (isIf s) (atomFront s 4) (atomFront s 0)) (pickSeen (eqb b 41) (seen Step (space s 1)) (seen End 0))
+            unmarked : frontOf s ≡ cond (eqb b 40) (cond (isIf s) (atomFront s 4) (atomFront s 0)) (cond (eqb b 41) (seen Step (space s 1)) (seen End 0))
             unfolding frontOf
             unmarked = rw (lt-leb (length s) 1 h, ← p, ← q, e, ← u, f, ne-eqb b 63 n1, ne-eqb b 33 n2, ne-eqb b 37 n3)
 

@@ -29,20 +29,12 @@ unfoldable pub spaces : List ℕ → ℕ
 spaces [] = 0
 spaces (b ∷ s) = cond (eqb b 41) 0 (spaceBit b + spaces s)
 
-abbrev pub pickKey : Bool → Key → Key → Key
-pickKey true x y = x
-pickKey false x y = y
-
-abbrev pub pickSeen : Bool → Seen → Seen → Seen
-pickSeen true x y = x
-pickSeen false x y = y
-
 abbrev pub seen : Event → ℕ → Seen
 seen e n = record { event = e; taken = n }
 
 -- the name at i: its key (that of no name where it is too long), and the place of what follows
 unfoldable pub nameKey : List ℕ → ℕ → Key
-nameKey t n = pickKey (leb n 15) (keyOf (take n t)) (record { a = 0; b = 0 })
+nameKey t n = cond (leb n 15) (keyOf (take n t)) (record { a = 0; b = 0 })
 
 unfoldable pub wordAt : List ℕ → ℕ → Word
 wordAt s i =
@@ -55,7 +47,7 @@ isIf s = eqb (getD s 1 0) 105 && (eqb (getD s 2 0) 102 && (eqb (getD s 3 0) 32 &
 -- the atom whose bracket stands at i
 unfoldable pub atomFront : List ℕ → ℕ → Seen
 atomFront s i =
-    pickSeen (eqb (getD s (i + 1) 0) 61)
+    cond (eqb (getD s (i + 1) 0) 61)
     (seen Equal (space s (i + 2)))
     (seen (Holds (wordAt s (i + 1) .key) (spaces (drop (i + 1) s))) (wordAt s (i + 1) .place))
 
@@ -65,14 +57,14 @@ numberFront s = seen (Number (valueOf (take (run isDigit s) s))) (space s (run i
 -- the event at the front; the last byte is the line's closing bracket
 unfoldable pub frontOf : List ℕ → Seen
 frontOf s =
-    pickSeen (leb (length s) 1) (seen End 0)
-    (pickSeen (isLetter (getD s 0 0)) (seen (Name (wordAt s 0 .key)) (wordAt s 0 .place))
-    (pickSeen (isDigit (getD s 0 0)) (numberFront s)
-    (pickSeen (eqb (getD s 0 0) 63) (seen (Variable (wordAt s 1 .key)) (wordAt s 1 .place))
-    (pickSeen (eqb (getD s 0 0) 33) (seen (Parameter (wordAt s 1 .key)) (wordAt s 1 .place))
-    (pickSeen (eqb (getD s 0 0) 37) (seen (Minimum (wordAt s 1 .key)) (wordAt s 1 .place))
-    (pickSeen (eqb (getD s 0 0) 40) (pickSeen (isIf s) (atomFront s 4) (atomFront s 0))
-    (pickSeen (eqb (getD s 0 0) 41) (seen Step (space s 1))
+    cond (leb (length s) 1) (seen End 0)
+    (cond (isLetter (getD s 0 0)) (seen (Name (wordAt s 0 .key)) (wordAt s 0 .place))
+    (cond (isDigit (getD s 0 0)) (numberFront s)
+    (cond (eqb (getD s 0 0) 63) (seen (Variable (wordAt s 1 .key)) (wordAt s 1 .place))
+    (cond (eqb (getD s 0 0) 33) (seen (Parameter (wordAt s 1 .key)) (wordAt s 1 .place))
+    (cond (eqb (getD s 0 0) 37) (seen (Minimum (wordAt s 1 .key)) (wordAt s 1 .place))
+    (cond (eqb (getD s 0 0) 40) (cond (isIf s) (atomFront s 4) (atomFront s 0))
+    (cond (eqb (getD s 0 0) 41) (seen Step (space s 1))
     (seen End 0))))))))
 
 -- at a place of a line
@@ -90,15 +82,11 @@ isEnd (Holds k n) = false
 isEnd Step = false
 isEnd End = true
 
-abbrev pub pickEvents : Bool → List Event → List Event → List Event
-pickEvents true x y = x
-pickEvents false x y = y
-
 -- the events of the bytes up to the first end; the first argument bounds how many
 unfoldable pub eventsFrom : ℕ → List ℕ → List Event
 eventsFrom zero s = []
 eventsFrom (suc f) s =
-    pickEvents (isEnd (frontOf s .event)) [] (frontOf s .event ∷ eventsFrom f (drop (frontOf s .taken) s))
+    cond (isEnd (frontOf s .event)) [] (frontOf s .event ∷ eventsFrom f (drop (frontOf s .taken) s))
 
 unfoldable pub eventsOf : List ℕ → List Event
 eventsOf s = eventsFrom (length s) s

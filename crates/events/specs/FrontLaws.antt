@@ -13,7 +13,7 @@ use Rattle.words.specs.Bytes.{isLetter, isDigit, isNameByte, run}
 use Rattle.words.specs.ByteLaws.{inside, run-le, run-pos, letter-name}
 use Rattle.events.specs.declared.Event.the-variants.{Name, End}
 use Rattle.events.specs.declared.Seen.{Seen}
-use Rattle.events.specs.Front.{space, behind, pickSeen, seen, wordAt, isIf, atomFront, numberFront, frontOf, nextAt, isEnd, pickEvents, eventsFrom, eventsOf}
+use Rattle.events.specs.Front.{space, behind, seen, wordAt, isIf, atomFront, numberFront, frontOf, nextAt, isEnd, eventsFrom, eventsOf}
 
 -- an event stays within n bytes, and takes one at least unless it is the end
 pub record Moves (n : ℕ) (x : Seen) : Type 0 where
@@ -44,7 +44,7 @@ unfolding wordAt
 word-room s i h =
     behind-room s (i + run isNameByte (drop i s)) (omega (arith, run-le isNameByte (drop i s), length-drop i s))
 
-pick-moves : (n : ℕ) (b : Bool) (x y : Seen) → (b ≡ true → Moves n x) → (b ≡ false → Moves n y) → Moves n (pickSeen b x y)
+pick-moves : (n : ℕ) (b : Bool) (x y : Seen) → (b ≡ true → Moves n x) → (b ≡ false → Moves n y) → Moves n (cond b x y)
 pick-moves n true x y f g = f refl
 pick-moves n false x y f g = g refl
 
@@ -123,7 +123,7 @@ fuel (suc f) (suc g) s h k = go (isEnd (frontOf s .event)) refl (fuel f g (drop 
   where
     go : (b : Bool) → isEnd (frontOf s .event) ≡ b
         → (length (drop (frontOf s .taken) s) ≤ f → length (drop (frontOf s .taken) s) ≤ g → eventsFrom f (drop (frontOf s .taken) s) ≡ eventsFrom g (drop (frontOf s .taken) s))
-        → pickEvents b [] (frontOf s .event ∷ eventsFrom f (drop (frontOf s .taken) s)) ≡ pickEvents b [] (frontOf s .event ∷ eventsFrom g (drop (frontOf s .taken) s))
+        → cond b [] (frontOf s .event ∷ eventsFrom f (drop (frontOf s .taken) s)) ≡ cond b [] (frontOf s .event ∷ eventsFrom g (drop (frontOf s .taken) s))
     go true e ih = refl
     go false e ih =
         let m = front-moves s in

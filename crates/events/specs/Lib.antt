@@ -8,11 +8,11 @@
 --   itemEvent, shapeEvents, wordsEvents == of a word by its sort; of what stands behind a key word, by its shape and by its kind
 --
 -- Definitions: the words of bytes
---   Seen, seen, pickSeen == an event, and how many bytes it takes with the space behind it
+--   Seen, seen == an event, and how many bytes it takes with the space behind it
 --   Word == a name's key, and the place of what follows
 --   space, behind, spaceBit, spaces == spaces passed and counted
---   nameKey, wordAt, pickKey, isIf, atomFront, numberFront, frontOf == the event at the front of the bytes
---   isEnd, eventsFrom, eventsOf, pickEvents == all events of the bytes
+--   nameKey, wordAt, isIf, atomFront, numberFront, frontOf == the event at the front of the bytes
+--   isEnd, eventsFrom, eventsOf == all events of the bytes
 --
 -- Definitions: words without a diagram
 --   noKey, keyIn, numberIn == the key, the number of a word

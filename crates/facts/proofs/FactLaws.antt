@@ -225,9 +225,6 @@ module _ (s : List ℕ) (l : Live) (row : List ℕ) {b : Bool} (q : b ≡ isFact
     unfolding factLine liveOf
     note-done h u = record { lives = (rw (← lent-facts, e, fact-count s l g, lt-leb mostFacts (l .facts) h) (ap ok (sym (u .live))), u .good) }
 
-pub note-room : (s : List ℕ) (l : Live) → GoodLive s l → factsBase + l .facts * factWords ≤ length s
-note-room s l g = let r = g .room in let h = g .facts in omega arith
-
 module _ (ar table s : List ℕ) (n : Counts) (l : Live) (k : Key) (o : Tuple) (row : List ℕ) {i : ℕ} (p : i ≡ placeOf k (keysAt table declaredAt (n .predicates))) where
   pub tell-name : n .predicates ≤ i → Telling ar table n s l k o row (Refused Name) s
   unfolding trueLine namesOf

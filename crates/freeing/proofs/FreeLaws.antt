@@ -1,6 +1,6 @@
 -- Laws of the code of freeing.
 use mathlib.Core.Path.{_≡_, refl, sym, ap, _∙_}
-use mathlib.Core.Bool.{Bool, true, false, not, _&&_, _||_}
+use mathlib.Core.Bool.{Bool, true, false, not, _||_}
 use mathlib.Core.List.{List, [], _∷_, _++_}
 use Prim.Native.Nat.{ℕ, suc, _+_, _-_, _/_, _≤_, _<_}
 use native.Mathlib.Omega.{arith}
@@ -27,7 +27,7 @@ use Rattle.diagram.specs.ListingValid.{listing-is-valid}
 use Rattle.diagram.specs.Listings.{is-listing-good, is-listing-diagram}
 use Rattle.diagram.specs.Variables.{occurs}
 use Rattle.listing.specs.Used.{Used}
-use Rattle.rename.specs.Calls.{Countable, Renamable}
+use Rattle.rename.specs.Calls.{Renamable}
 use Rattle.rename.specs.Maps.{tabled}
 use Rattle.rename.specs.MapLaws.{free-terms}
 use Rattle.rename.specs.Relabelling.{relabelled}
@@ -68,9 +68,6 @@ length-relabelled g (x ∷ y ∷ []) = refl
 length-relabelled g (x ∷ y ∷ z ∷ ws) = ap (λ n. suc (suc (suc n))) (length-relabelled g ws)
 
 module _ {ar words : List ℕ} {count : ℕ} {out : List ℕ} (task : FreeTask ar words count out) where
-  pub task-countable : (map : List ℕ) → termEnd ≤ length map → Countable count map
-  task-countable map h = record { few = task .few; whole = h }
-
   pub task-renamable : (rest : List ℕ) {map : List ℕ} → map ≡ tabled (freeing count) termEnd ++ rest → Renamable ar words map out
   task-renamable rest {map} e = record { listing = task .listing; terms = rw e (free-terms count rest (task .few)); room = task .room }
 

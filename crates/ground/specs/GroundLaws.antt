@@ -15,7 +15,7 @@ use Rattle.label.specs.Terms.{isConstant}
 use Rattle.label.specs.Labels.{atomFrom, packed, predicateOf, unpacked, termsOf, isLabel, areArities}
 use Rattle.label.specs.LabelLaws.{packed-unpacked, label-below}
 use Rattle.label.specs.ArityLaws.{terms-length}
-use Rattle.diagram.specs.Diagram.{Diagram, leaf, branch, eval}
+use Rattle.diagram.specs.Diagram.{Diagram, leaf, branch, eval, EveryLabel}
 use Rattle.diagram.specs.Words.{labelAt, highAt, lowAt, rowCount, equalLists, isListing}
 use Rattle.diagram.specs.Listing.{treeAt, diagramOf}
 use Rattle.diagram.specs.Validity.{Valid}
@@ -26,7 +26,6 @@ use Rattle.diagram.specs.RowDiagrams.{branch-row}
 use Rattle.diagram.specs.DiagramOfListing.{valid-rows}
 use Rattle.diagram.specs.ListingValid.{listing-is-valid}
 use Rattle.diagram.specs.Listings.{is-one-listing, is-listing-good}
-use Rattle.rename.specs.Relabelling.{Labels}
 use Rattle.rename.specs.RelabelLaws.{eval-relabel, eval-agree, labels-weaken}
 use Rattle.state.specs.Max.{none}
 use Rattle.state.specs.State.{atomOf, meaning, State, Good, truth, holds, value, low, fixed}
@@ -52,12 +51,12 @@ label-one ar l k el ek p t =
 
 -- the labels of a row's diagram are labels of rows
 tree-labels : (Q : ℕ → Type 0) (ar ws : List ℕ) → Valid ar ws → ((i : ℕ) → i < rowCount ws → labelAt ws i ≢ leafMark → Q (labelAt ws i))
-    → (depth i : ℕ) → i < rowCount ws → Labels Q (treeAt ws depth i)
+    → (depth i : ℕ) → i < rowCount ws → EveryLabel Q (treeAt ws depth i)
 unfolding treeAt
 tree-labels Q ar ws v q zero i h = tt
 tree-labels Q ar ws v q (suc depth) i h = go (flag (eqb (labelAt ws i) leafMark)) (tree-labels Q ar ws v q depth)
   where
-    go : Flag (eqb (labelAt ws i) leafMark) → ((j : ℕ) → j < rowCount ws → Labels Q (treeAt ws depth j)) → Labels Q (treeAt ws (suc depth) i)
+    go : Flag (eqb (labelAt ws i) leafMark) → ((j : ℕ) → j < rowCount ws → EveryLabel Q (treeAt ws depth j)) → EveryLabel Q (treeAt ws (suc depth) i)
     go (isTrue e) ih = rw (tree-leaf ws depth i (eqb-true _ _ e)) tt
     go (isFalse e) ih =
         let e′ = eqb-false _ _ e in
@@ -69,7 +68,7 @@ abbrev GroundLabel : List ℕ → ℕ → Type 0
 GroundLabel ar l = (isLabel ar l ≡ true) × (isGroundLabel ar l ≡ true)
 
 -- the diagram of a ground listing has such labels only
-ground-labels : (ar ws : List ℕ) → isListing ar ws ≡ true → isGround ar ws ≡ true → Labels (GroundLabel ar) (diagramOf ws)
+ground-labels : (ar ws : List ℕ) → isListing ar ws ≡ true → isGround ar ws ≡ true → EveryLabel (GroundLabel ar) (diagramOf ws)
 unfolding isGround diagramOf
 ground-labels ar ws e g = tree-labels (GroundLabel ar) ar ws v each (rowCount ws) (pred (rowCount ws)) (let h = v .some in omega arith)
   where
@@ -93,13 +92,13 @@ ground-constants : (ar : List ℕ) (l : ℕ) → isGroundLabel ar l ≡ true →
 unfolding isGroundLabel
 ground-constants ar l g = constants-each (termsOf ar (unpacked l)) (and-left (allConstants (termsOf ar (unpacked l))) _ g)
 
-ground-terms : (ar : List ℕ) (d : Diagram) → Labels (GroundLabel ar) d → Terms (λ t. t < constantCount) (meaning ar d)
+ground-terms : (ar : List ℕ) (d : Diagram) → EveryLabel (GroundLabel ar) d → Terms (λ t. t < constantCount) (meaning ar d)
 unfolding meaning
 ground-terms ar (leaf v) w = tt
 ground-terms ar (branch l t f) w = (ground-constants ar l (w .0 .1), ground-terms ar t (w .1), ground-terms ar f (w .2))
 
 -- the number of a ground diagram is the leaf that the facts lead to
-ground-number : (ar : List ℕ) (d : Diagram) → Labels (GroundLabel ar) d → (s : State) → Good s
+ground-number : (ar : List ℕ) (d : Diagram) → EveryLabel (GroundLabel ar) d → (s : State) → Good s
     → number s [] (meaning ar d) ≡ eval (λ l. holds s (start s []) (atomOf ar l)) d
 unfolding value meaning
 ground-number ar d w s g =
@@ -234,7 +233,7 @@ freely-holds ar c l g =
     ∙ chosen-is ar c leafMark l (label-below ar l (g .0)) g
 
 -- so the value of a ground diagram in that state is its leaf under c
-freely-value : (ar ws : List ℕ) → Labels (GroundLabel ar) (diagramOf ws) → (c : ℕ → Bool) → valueIn ar ws (freely ar c) ≡ eval c (diagramOf ws)
+freely-value : (ar ws : List ℕ) → EveryLabel (GroundLabel ar) (diagramOf ws) → (c : ℕ → Bool) → valueIn ar ws (freely ar c) ≡ eval c (diagramOf ws)
 unfolding valueIn freely
 freely-value ar ws w c =
     let s = freely ar c in

@@ -93,9 +93,6 @@ unfoldable pub termsOf : List ℕ → Atom → List ℕ
 termsOf ar a = take (getD ar (a .predicate) 0) (placesOf a)
 
 -- what an atom asks, after its terms were replaced: t = t is plain truth, an equality has its smaller term first
-abbrev pub pickTest : Bool → Test → Test → Test
-pickTest b x y = cond b x y
-
 abbrev pub labelOf : Atom → Test
 labelOf a = Is (record { packed = packed a })
 

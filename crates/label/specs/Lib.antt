@@ -26,7 +26,6 @@
 --   termsOf == the terms of an atom: its used places
 --   Test == what an atom asks: a label, or t = t, which is plain truth (an enum of the code)
 --   testOf, labelOf, equates, equalAtom == what an atom asks: its label; of an equality plain truth, or the label with the smaller term first
---   pickTest == the first test if true, else the second
 --
 -- Definitions: the order of labels, as the thesis writes it (document 02, L3)
 --   kindRank, termBefore == constants before parameters before variables before minimum variables; two terms by kind, then by number

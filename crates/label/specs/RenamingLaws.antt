@@ -1,17 +1,16 @@
 -- Laws of renamed labels: a map that keeps the order of terms keeps labels normal and in order. Closing up, moving apart and freeing are such maps.
 use mathlib.Core.Path.{_≡_, refl, sym, ap, ap₂, subst, _∙_}
 use mathlib.Core.Logic.{_⊎_, inl, inr}
-use mathlib.Core.Bool.{Bool, true, false, not, _&&_, _||_, cond}
+use mathlib.Core.Bool.{true, not, _||_, cond}
 use mathlib.Core.List.{List, [], _∷_, map}
-use Prim.Native.Nat.{ℕ, zero, suc, _+_, _-_, _/_, _≤_, _<_}
+use Prim.Native.Nat.{ℕ, zero, suc, _+_, _-_, _≤_, _<_}
 use native.Mathlib.Omega.{arith}
 use lib.ListN.{length, getD, take}
-use lib.Seq.{take-nil}
-use lib.Dec.{eqb, ltb, leb}
+use lib.Dec.{eqb, ltb}
 use borrow.Author.Tests.{ltb-true, ltb-false, eqb-true, lt-ltb, le-ltb, le-leb, eq-eqb, ne-eqb}
-use Rattle.basics.specs.Tests.{and-left, and-right, Flag, isTrue, isFalse, flag, one, Cmp, below, equal, above, cmp}
+use Rattle.basics.specs.Tests.{Flag, isTrue, isFalse, flag, Cmp, below, equal, above, cmp}
 use Rattle.basics.specs.Members.{mem, clash}
-use Rattle.label.specs.Limits.{constantCount, firstParameter, parameterCount, firstVariable, variableCount, firstMinimum, minimumCount, termEnd, predicateCount, equalityArity, mostPlaces}
+use Rattle.label.specs.Limits.{constantCount, firstParameter, parameterCount, firstVariable, variableCount, firstMinimum, minimumCount, termEnd, equalityArity, mostPlaces}
 use Rattle.label.specs.Terms.{isConstant, isParameter, isVariable, isMinimum, isTerm}
 use Rattle.label.specs.Labels.{areArities, placesOf, placeIn, packed, predicateOf, unpacked, placeFits, inOrder, isAtom, isLabel, termsOf, equalAtom, equates, testOf, labelOf}
 use Rattle.label.specs.Renamings.{placed, mapped, moved, renamed, rank, numbering, freeing, Increasing, EachTerm, EachIn}

@@ -8,11 +8,11 @@ use lib.ListN.{length}
 use lib.Dec.{eqb}
 use borrow.Author.Tests.{ne-eqb}
 use Rattle.words.specs.Bytes.{isDigit, isNameByte, run}
-use Rattle.words.specs.ByteLaws.{digit-range, name-range, run-le}
+use Rattle.words.specs.ByteLaws.{digit-range, name-range}
 use Rattle.words.specs.Words.{IsName, IsNumber}
 use Rattle.forms.specs.declared.Sort.{Sort}
 use Rattle.forms.specs.declared.Sort.the-variants.{Name, Variable, Parameter, Any, Number}
-use Rattle.forms.specs.Tree.{Mark, Term, Atom, Diagram, manyBytes, markBytes, termBytes, atomBytes, diagramBytes, All, GoodTerm, GoodAtom, GoodDiagram}
+use Rattle.forms.specs.Tree.{Term, Atom, Diagram, manyBytes, termBytes, atomBytes, diagramBytes, All, GoodTerm, GoodAtom, GoodDiagram}
 use Rattle.forms.specs.Tree.Mark.{plain, variable, parameter, minimum}
 use Rattle.forms.specs.Tree.Term.{term}
 use Rattle.forms.specs.Tree.Atom.{equal, holds}

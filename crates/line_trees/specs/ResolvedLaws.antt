@@ -1,6 +1,6 @@
 -- The words of a diagram, resolved one after another with the variables met so far, come to what its tree says with all variables of the line.
 use mathlib.Core.Path.{_≡_, refl, sym, ap, ap₂, subst, _∙_}
-use mathlib.Core.Bool.{Bool, true, false, not}
+use mathlib.Core.Bool.{Bool, true, false, not, cond}
 use mathlib.Core.List.{List, [], _∷_, _++_, append-nil, append-assoc}
 use Prim.Native.Nat.{ℕ, _+_, _≤_}
 use native.Mathlib.Omega.{arith}
@@ -29,7 +29,7 @@ use Rattle.forms.specs.Tree.Atom.{equal, holds}
 use Rattle.forms.specs.Tree.Diagram.{number as numeral, branch as conditional}
 use Rattle.reading.specs.declared.Binding.{Binding}
 use Rattle.reading.specs.declared.Binding.the-variants.{Any, None, Only}
-use Rattle.reading.specs.Reading.{Names, Judged, pickJudged, constantNumber, parameterNumber, met, Met, arguments, numberIn, variableNumber, minimumNumber, variableMet, minimumMet, isWithin}
+use Rattle.reading.specs.Reading.{Names, Judged, constantNumber, parameterNumber, met, Met, arguments, numberIn, variableNumber, minimumNumber, variableMet, minimumMet, isWithin}
 use Rattle.reading.specs.Reading.{andThen as judgedThen}
 use Rattle.reading.specs.Reading.Judged.{fine, refused}
 use Rattle.reading.specs.Tree.{Reading, Result, having, resolveTerm, joined, resolveTerms, testing, resolveAtom, branching, resolveDiagram}
@@ -63,7 +63,7 @@ match-mono P Q (refused r) (ok b) f m = absurd m
 match-mono P Q (refused r) (refusedWith s) f m = m
 
 match-test : {A B : Type 0} (P : A → B → Type 0) (b : Bool) (j : Judged A) (o : Outcome B) (r : Refusal) → Match P j o
-    → Match P (pickJudged b j (refused r)) (refuseIf (not b) r o)
+    → Match P (cond b j (refused r)) (refuseIf (not b) r o)
 match-test P true j o r m = m
 match-test P false j o r m = refl
 
@@ -79,7 +79,7 @@ module _ (σ : Session) (b : Binding) (ps : List Key) (vs : Met) (S : Met → Li
   Same ts g x = (isWithin vs ≡ true → g .value ≡ x) × S (g .met) ts
 
   same-number : (ts : List T.Term) (ws : Met) → S ws ts → (c : Bool) (x y : ℕ) (r : Refusal) → (isWithin vs ≡ true → c ≡ true → x ≡ y)
-      → Match (Same ts) (having ws (pickJudged c (fine x) (refused r))) (refuseIf (not c) r (ok y))
+      → Match (Same ts) (having ws (cond c (fine x) (refused r))) (refuseIf (not c) r (ok y))
   same-number ts ws s true x y r e = (λ few. e few refl, s)
   same-number ts ws s false x y r e = refl
 
@@ -116,8 +116,8 @@ module _ (σ : Session) (b : Binding) (ps : List Key) (vs : Met) (S : Met → Li
       where
         resolved : ℕ → Judged (Result Test)
         resolved q =
-            pickJudged (isAmong (keyOf p) (σ .names .predicates))
-            (pickJudged (eqb (length ts) (getD (σ .model .arities) q 0)) (judgedThen (resolveTerms names ws ts) (testing q)) (refused Arity))
+            cond (isAmong (keyOf p) (σ .names .predicates))
+            (cond (eqb (length ts) (getD (σ .model .arities) q 0)) (judgedThen (resolveTerms names ws ts) (testing q)) (refused Arity))
             (refused Name)
 
         by-name : Match (Same rest) (resolved (predicateOf (σ .names) (keyOf p))) (atomTest σ ps vs (holds p ts))

@@ -1,6 +1,6 @@
 -- The head of (becomes (p ?a ..) DIAGRAM), word by word, comes to what its tree says.
 use mathlib.Core.Path.{_≡_, refl, sym, ap, _∙_}
-use mathlib.Core.Bool.{Bool, true, false, not, _||_}
+use mathlib.Core.Bool.{Bool, true, false, not, _||_, cond}
 use mathlib.Core.List.{List, [], _∷_, _++_, map, append-nil, append-assoc}
 use Prim.Native.Nat.{ℕ}
 use lib.Dec.{eqb}
@@ -15,7 +15,7 @@ use Rattle.text.specs.Line.{Words, GoodWords}
 use Rattle.events.specs.declared.Event.{Event}
 use Rattle.events.specs.Events.{diagramEvents, wordsEvents}
 use Rattle.events.specs.LineEvents.{line-events}
-use Rattle.reading.specs.Reading.{Judged, pickJudged}
+use Rattle.reading.specs.Reading.{Judged}
 use Rattle.reading.specs.Reading.{andThen as judgedThen}
 use Rattle.reading.specs.Reading.Judged.{fine, refused}
 use Rattle.reading.specs.Head.{Head, headArguments, argumentKeys}
@@ -25,7 +25,7 @@ use Rattle.session.specs.Declaring.{repeated}
 use Rattle.session.specs.Modelling.{outcomeOf}
 
 -- the keys of the arguments, unless one is repeated
-distinct-keys : (ks : List Key) (vs : List (List ℕ)) → argumentKeys ks vs ≡ pickJudged (repeated ks (map keyOf vs)) (refused Name) (fine (ks ++ map keyOf vs))
+distinct-keys : (ks : List Key) (vs : List (List ℕ)) → argumentKeys ks vs ≡ cond (repeated ks (map keyOf vs)) (refused Name) (fine (ks ++ map keyOf vs))
 unfolding repeated
 distinct-keys ks [] = ap fine (sym (append-nil ks))
 distinct-keys ks (v ∷ vs) = go (isAmong (keyOf v) ks) (distinct-keys (ks ++ (keyOf v ∷ [])) vs)
@@ -33,10 +33,10 @@ distinct-keys ks (v ∷ vs) = go (isAmong (keyOf v) ks) (distinct-keys (ks ++ (k
     more : List Key
     more = ks ++ (keyOf v ∷ [])
 
-    go : (b : Bool) → argumentKeys more vs ≡ pickJudged (repeated more (map keyOf vs)) (refused Name) (fine (more ++ map keyOf vs))
-        → pickJudged b (refused Name) (argumentKeys more vs) ≡ pickJudged (b || repeated more (map keyOf vs)) (refused Name) (fine (ks ++ (keyOf v ∷ map keyOf vs)))
+    go : (b : Bool) → argumentKeys more vs ≡ cond (repeated more (map keyOf vs)) (refused Name) (fine (more ++ map keyOf vs))
+        → cond b (refused Name) (argumentKeys more vs) ≡ cond (b || repeated more (map keyOf vs)) (refused Name) (fine (ks ++ (keyOf v ∷ map keyOf vs)))
     go true ih = refl
-    go false ih = ih ∙ ap (λ (l : List Key). pickJudged (repeated more (map keyOf vs)) (refused Name) (fine l)) (append-assoc ks (keyOf v ∷ []) (map keyOf vs))
+    go false ih = ih ∙ ap (λ (l : List Key). cond (repeated more (map keyOf vs)) (refused Name) (fine l)) (append-assoc ks (keyOf v ∷ []) (map keyOf vs))
 
 -- 3 for another count than n, 2 for a repeated argument, then what follows
 pub head-tree : {A : Type 0} (n : ℕ) (w : Words Becomes) → GoodWords Becomes w → (f : List Event → List Key → Outcome A)
@@ -54,12 +54,12 @@ head-tree n w g f =
     keys = map keyOf (w .1)
 
     distinct : Judged (List Key)
-    distinct = pickJudged (repeated [] keys) (refused Name) (fine keys)
+    distinct = cond (repeated [] keys) (refused Name) (fine keys)
 
     checked : Bool → Judged (List Key) → Judged Head
-    checked b j = judgedThen (pickJudged b j (refused Arity)) (λ ks. fine (record { variables = ks; rest = diagramEvents (w .2) }))
+    checked b j = judgedThen (cond b j (refused Arity)) (λ ks. fine (record { variables = ks; rest = diagramEvents (w .2) }))
 
-    go : (b c : Bool) → andThen (outcomeOf (checked b (pickJudged c (refused Name) (fine keys)))) (λ h. f (h .rest) (h .variables))
+    go : (b c : Bool) → andThen (outcomeOf (checked b (cond c (refused Name) (fine keys)))) (λ h. f (h .rest) (h .variables))
         ≡ refuseIf (not b) Arity (refuseIf c Name (f (diagramEvents (w .2)) keys))
     go true true = refl
     go true false = refl

@@ -1,6 +1,6 @@
 -- The words of a diagram, read one after another and built by the machine with two stacks, come to what the diagram's tree says.
 use mathlib.Core.Path.{_≡_, refl, ap, subst, _∙_}
-use mathlib.Core.Bool.{Bool, true, false, not}
+use mathlib.Core.Bool.{Bool, true, false, not, cond}
 use mathlib.Core.List.{List}
 use Prim.Native.Nat.{_≤_}
 use native.Mathlib.Omega.{arith}
@@ -17,7 +17,7 @@ use Rattle.forms.specs.Tree.Diagram.{number as numeral, branch as conditional}
 use Rattle.events.specs.Events.{diagramEvents}
 use Rattle.reading.specs.declared.Binding.{Binding}
 use Rattle.reading.specs.Operations.{Op}
-use Rattle.reading.specs.Reading.{Names, Judged, pickJudged, Met, Written, isWithin, reading}
+use Rattle.reading.specs.Reading.{Names, Judged, Met, Written, isWithin, reading}
 use Rattle.reading.specs.Reading.{andThen as judgedThen}
 use Rattle.reading.specs.Reading.Judged.{fine, refused}
 use Rattle.reading.specs.JudgedLaws.{fine-one, passed, chained}
@@ -60,7 +60,7 @@ read-built machine tree law σ b ps vs ws d shallow reads k =
     wrote g = record { met = g .met; operations = opsOf (g .value) }
 
     counted : (g : Result Reading) (r : Reading) → depth (g .value) ≤ mostTests → (c : Bool) → (c ≡ true → g .value ≡ r)
-        → andThen (outcomeOf (pickJudged c (fine (wrote g)) (refused Variables))) (λ w. andThen (machine (w .operations)) k)
+        → andThen (outcomeOf (cond c (fine (wrote g)) (refused Variables))) (λ w. andThen (machine (w .operations)) k)
         ≡ andThen (refuseIf (not c) Variables (ok r)) (λ x. andThen (tree x) k)
     counted g r h true e = ap (λ (o : Outcome Diagram). andThen o k) (law (g .value) h ∙ ap tree (e refl))
     counted g r h false e = refl
@@ -69,7 +69,7 @@ read-built machine tree law σ b ps vs ws d shallow reads k =
         → andThen (outcomeOf (judgedThen j writing)) (λ w. andThen (machine (w .operations)) k)
         ≡ andThen (andThen o (λ r. refuseIf (not (isWithin vs)) Variables (ok r))) (λ r. andThen (tree r) k)
     go (fine g) (ok r) h m =
-        ap (λ (c : Bool). andThen (outcomeOf (pickJudged c (fine (wrote g)) (refused Variables))) (λ w. andThen (machine (w .operations)) k)) (m .1)
+        ap (λ (c : Bool). andThen (outcomeOf (cond c (fine (wrote g)) (refused Variables))) (λ w. andThen (machine (w .operations)) k)) (m .1)
         ∙ counted g r (h g refl) (isWithin vs) (λ e. m .0 e)
     go (fine g) (refusedWith r) h m = absurd m
     go (refused r) (ok x) h m = absurd m

@@ -1,7 +1,7 @@
 -- The reply to the bytes of a well-formed line is what its tree says, and bytes that no tree writes are 1.
 use mathlib.Core.Path.{_≡_, refl, ap, _∙_}
 use mathlib.Core.Logic.{_≢_}
-use mathlib.Core.Bool.{Bool, true, false, not, _||_}
+use mathlib.Core.Bool.{Bool, true, false, not, _||_, cond}
 use mathlib.Core.List.{List, [], _∷_, map}
 use Prim.Native.Nat.{ℕ, _+_, _≤_}
 use native.Mathlib.Omega.{arith}
@@ -29,7 +29,7 @@ use Rattle.events.specs.Events.{parameterEvent, numberEvent, diagramEvents, wor
 use Rattle.events.specs.LineEvents.{line-events}
 use Rattle.events.specs.Contents.{keysIn, numbersIn}
 use Rattle.reading.specs.declared.Binding.the-variants.{Any, None, Only}
-use Rattle.reading.specs.Reading.{Names as ReadingNames, Judged, Met, arguments, Written, pickJudged, reading}
+use Rattle.reading.specs.Reading.{Names as ReadingNames, Judged, Met, arguments, Written, reading}
 use Rattle.reading.specs.Reading.Judged.{fine, refused as judged}
 use Rattle.reading.specs.Numbering.{rewardReading}
 use Rattle.reading.specs.Head.{headNumber, openedNumber, headArguments}
@@ -172,7 +172,7 @@ module _ (σ : Session) where
       after : ℕ → Outcome (ℕ × Diagram)
       after q = refuseIf (isSome (truthsNow (σ .model .actions) q)) Name (headed q)
 
-      declared : (b : Bool) → andThen (outcomeOf (pickJudged b (fine (placeOf (keyOf (w .0)) (σ .names .predicates) + 1)) (judged Name))) after
+      declared : (b : Bool) → andThen (outcomeOf (cond b (fine (placeOf (keyOf (w .0)) (σ .names .predicates) + 1)) (judged Name))) after
           ≡ andThen (refuseIf (not b || isSome (truthsNow (σ .model .actions) p)) Name head-by-tree) (λ x. ok (paired x))
       declared true = ap after (add-one _) ∙ new (isSome (truthsNow (σ .model .actions) p))
       declared false = refl

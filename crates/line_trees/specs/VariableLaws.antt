@@ -27,7 +27,7 @@ use Rattle.events.specs.Events.{termEvent, atomEvents, diagramEvents}
 use Rattle.reading.specs.declared.Binding.the-variants.{Any}
 use Rattle.reading.specs.declared.Kind.{Kind}
 use Rattle.reading.specs.declared.Kind.the-variants as K
-use Rattle.reading.specs.Reading.{Names, pickKeys, met, Met, numberIn, isWithin, reading}
+use Rattle.reading.specs.Reading.{Names, met, Met, numberIn, isWithin, reading}
 use Rattle.reading.specs.Occurrences.{variableOf, wordKeys, keysOf}
 use Rattle.reading.specs.Numbering.{variablesFirst, metFirst}
 use Rattle.reading.specs.NumberingLaws.{reading-many}
@@ -107,7 +107,7 @@ kept us = take (suc variableCount) us
 abbrev pub keptMet : Met → Met
 keptMet m = record { variables = kept (m .variables); minimums = kept (m .minimums) }
 
-pick-same : (b : Bool) (x : List Key) → pickKeys b x x ≡ x
+pick-same : (b : Bool) (x : List Key) → cond b x x ≡ x
 pick-same true x = refl
 pick-same false x = refl
 
@@ -115,7 +115,7 @@ pub met-kept : (us : List Key) (k : Key) → met Any (kept us) k ≡ kept (withO
 unfolding met
 met-kept us k = go (decLt (length us) (suc variableCount))
   where
-    by-test : (b : Bool) → length us < suc variableCount → pickKeys b us (us ++ (k ∷ [])) ≡ kept (cond b us (us ++ (k ∷ [])))
+    by-test : (b : Bool) → length us < suc variableCount → cond b us (us ++ (k ∷ [])) ≡ kept (cond b us (us ++ (k ∷ [])))
     by-test true h = sym (take-all (suc variableCount) us (omega arith))
     by-test false h = sym (take-all (suc variableCount) (us ++ (k ∷ [])) (omega (arith, length-append us (k ∷ []))))
 
@@ -124,7 +124,7 @@ met-kept us k = go (decLt (length us) (suc variableCount))
     full false h = sym (take-append-le (suc variableCount) us (k ∷ []) h)
 
     go : Dec (length us < suc variableCount)
-        → pickKeys (isAmong k (kept us)) (kept us) (pickKeys (leb (length (kept us)) variableCount) (kept us ++ (k ∷ [])) (kept us)) ≡ kept (withOne us k)
+        → cond (isAmong k (kept us)) (kept us) (cond (leb (length (kept us)) variableCount) (kept us ++ (k ∷ [])) (kept us)) ≡ kept (withOne us k)
     go (yes h) = rw (take-all (suc variableCount) us (omega arith), le-leb (length us) variableCount (omega arith)) (by-test (isAmong k us) h)
     go (no h) =
         let l : suc variableCount ≤ length us = omega arith in

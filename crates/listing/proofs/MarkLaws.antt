@@ -11,7 +11,7 @@ use lib.Dec.{eqb}
 use borrow.Author.Tests.{eqb-true, eqb-false, eq-eqb, ne-eqb}
 use Rattle.basics.specs.Tests.{Flag, isTrue, isFalse, flag, Cmp, cmp, below, equal, above, cond-const}
 use Rattle.basics.specs.Members.{mem}
-use Rattle.label.specs.Limits.{leafMark, termEnd, mostPlaces, predicateCount, firstVariable, variableCount, firstMinimum}
+use Rattle.label.specs.Limits.{leafMark, termEnd, mostPlaces, predicateCount, firstVariable, firstMinimum}
 use Rattle.label.specs.Labels.{placesOf, predicateOf, placeAt, unpacked, isLabel, termsOf}
 use Rattle.label.specs.LabelLaws.{label-fits, predicate-of, place-of, place-end}
 use Rattle.label.specs.ArityLaws.{arity-most, arity-words}
@@ -96,9 +96,6 @@ pub places-start : (l : ℕ) (ms : List ℕ) {n : ℕ} → n ≤ mostPlaces → 
 places-start l ms h = record { most = zero-le; few = h; marks = refl }
 
 module _ {l : ℕ} {ms₀ ms : List ℕ} {n : ℕ} where
-  pub places-whole : {k : ℕ} → MarkedTo l ms₀ ms n k → length ms ≡ length ms₀
-  places-whole {k} m = ap length (m .marks) ∙ length-marked (take k (placesOf (unpacked l))) ms₀
-
   pub places-next : {k t : ℕ} → MarkedTo l ms₀ ms n k → k < n → t ≡ placeAt l k → MarkedTo l ms₀ (set ms t 1) n (k + 1)
   places-next {k} {t} m h e = record {
     most = omega arith;
@@ -192,9 +189,6 @@ module _ {ms : List ℕ} {first end : ℕ} where
 
   pub count-room : {n t x : ℕ} → Counting ms first end n t → x ≡ cond (eqb (getD ms t 0) 0) 0 1 → n + x < 18446744073709551616
   count-room {n} {t} {x} c e = omega (arith, c .most, c .last, c .fewer, count-small (getD ms t 0) e)
-
-  pub count-within : {n t : ℕ} → Counting ms first end n t → length ms ≡ termEnd → t < end → t < length ms
-  count-within c w h = omega (arith, c .last)
 
   pub count-end : {n t : ℕ} → Counting ms first end n t → end ≤ t → n ≡ setFrom ms first (end - first)
   count-end {n} {t} c h =

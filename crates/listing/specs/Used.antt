@@ -11,11 +11,11 @@ use Rattle.label.specs.Labels.{termsOf, unpacked}
 use Rattle.diagram.specs.Diagram.{Diagram}
 use Rattle.diagram.specs.Words.{labelAt, rowCount}
 use Rattle.diagram.specs.Validity.{Valid}
-use Rattle.diagram.specs.Variables.{pickList, occurs}
+use Rattle.diagram.specs.Variables.{occurs}
 
 -- the terms of row i's label, none for a leaf
 unfoldable pub rowTerms : List ℕ → List ℕ → ℕ → List ℕ
-rowTerms ar ws i = pickList (eqb (labelAt ws i) leafMark) [] (termsOf ar (unpacked (labelAt ws i)))
+rowTerms ar ws i = cond (eqb (labelAt ws i) leafMark) [] (termsOf ar (unpacked (labelAt ws i)))
 
 -- t is a term of one of the first n rows
 unfoldable pub mentioned : List ℕ → List ℕ → ℕ → ℕ → Bool

@@ -19,7 +19,7 @@ use Rattle.diagram.specs.Words.{labelAt, highAt, lowAt, rowCount, upTo}
 use Rattle.diagram.specs.WordLaws.{below-upTo, mem-upTo}
 use Rattle.diagram.specs.Listing.{diagramOf}
 use Rattle.diagram.specs.Validity.{Valid, tree}
-use Rattle.diagram.specs.Variables.{pickList, occurs, occurring, variables, minimums, isPlain}
+use Rattle.diagram.specs.Variables.{occurs, occurring, variables, minimums, isPlain}
 use Rattle.diagram.specs.Shown.{Shown, mem-tree}
 use Rattle.diagram.specs.DiagramOfListing.{shown-rows, diagram-is, rows-are}
 use Rattle.listing.specs.Used.{rowTerms, mentioned, Used, setFrom, markedVariables, markedMinimums}
@@ -180,7 +180,7 @@ module _ (ar : List ℕ) (d : Diagram) (ms : List ℕ) (u : Used ar d ms) where
   set-occurring t zero h = refl
   set-occurring t (suc n) h = rw (u .each t (omega arith), set-occurring (suc t) n (omega arith)) (go (occurs ar t d))
     where
-      go : (b : Bool) → cond (eqb (cond b 1 0) 0) 0 1 + length (occurring ar d (suc t) n) ≡ length (pickList b (t ∷ occurring ar d (suc t) n) (occurring ar d (suc t) n))
+      go : (b : Bool) → cond (eqb (cond b 1 0) 0) 0 1 + length (occurring ar d (suc t) n) ≡ length (cond b (t ∷ occurring ar d (suc t) n) (occurring ar d (suc t) n))
       go true = omega arith
       go false = omega arith
 

@@ -1,12 +1,13 @@
 -- A backup takes a diagram of the values Mk to one of the values M(k+1).
 use mathlib.Core.Path.{_≡_, refl, ap, sym, _∙_, subst}
-use mathlib.Core.Bool.{Bool, true, false, _||_}
+use mathlib.Core.Bool.{true, false}
 use mathlib.Core.List.{List, [], _∷_}
 use Prim.Native.Nat.{ℕ, suc, _+_, _*_, _^_, _≤_, _<_, max}
 use native.Mathlib.Omega.{arith}
 use native.Mathlib.Nat.{zero-add}
 use lib.Dec.{ltb, eqb}
 use borrow.Author.Tests.{ltb-false}
+use Rattle.basics.specs.Tests.{neither}
 use Rattle.refusal.specs.declared.Refusal.the-variants.{Scale}
 use Rattle.refusal.specs.Outcome.{Accepted}
 use Rattle.refusal.specs.OutcomeLaws.{accepted-ok, accepted-then, accepted-cond, accepted-mono}
@@ -30,8 +31,8 @@ use Rattle.minimum.specs.NumberLaws.{number-is, number-scale}
 use Rattle.minimum.specs.ApartLaws.{number-fixed}
 use Rattle.regression.specs.Regression.{regressed}
 use Rattle.regression.specs.Parameters.{Allowed, Within, GoodTruths, WithinTruths}
-use Rattle.regression.specs.Next.{meanings}
-use Rattle.regression.specs.NextLaws.{Tells, regressed-tells, regressed-number, next-good}
+use Rattle.regression.specs.Next.{meanings, Tells}
+use Rattle.regression.specs.NextLaws.{regressed-tells, regressed-number, next-good}
 use Rattle.regression.specs.RegressCall.{freedOutcome}
 use Rattle.reduction.specs.Claims.{Values}
 use Rattle.reduction.specs.ClosedLaws.{within-closed, closed-number}
@@ -154,13 +155,9 @@ module _ (ar : List ℕ) (good : areArities ar ≡ true) (g : ℕ) (g-few : g �
 
 -- ===== A backup =====
 
-or-first : (a b : Bool) → (a || b) ≡ false → a ≡ false
-or-first true b e = e
-or-first false b e = refl
-
 scale-room : (m : Model) (k : ℕ) → scaleEnds m k ≡ false → scale m ^ suc k ≤ highestScale
 unfolding scaleEnds
-scale-room m k e = ltb-false highestScale (scale m ^ suc k) (or-first (ltb highestScale (scale m ^ suc k)) (eqb k mostSteps) e)
+scale-room m k e = ltb-false highestScale (scale m ^ suc k) (neither (ltb highestScale (scale m ^ suc k)) (eqb k mostSteps) e .0)
 
 last : (a h p : ℕ) → max 0 a + h * p ≡ p * h + a
 last a h p = omega arith

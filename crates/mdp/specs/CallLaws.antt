@@ -1,6 +1,6 @@
 -- What the calls of a backup give, each in terms of listings, parameters and numbers.
 use mathlib.Core.Path.{_≡_, refl, ap, ap₂, sym, _∙_, subst}
-use mathlib.Core.Bool.{Bool, true, false, _&&_, _||_, cond}
+use mathlib.Core.Bool.{Bool, true, false, _&&_, cond}
 use mathlib.Core.List.{List, []}
 use Prim.Native.Nat.{ℕ, _+_, _-_, _≤_, _<_, max}
 use native.Mathlib.Omega.{arith}
@@ -10,20 +10,17 @@ use borrow.Author.Tests.{ltb-false}
 use Rattle.refusal.specs.declared.Refusal.the-variants.{Variables}
 use Rattle.refusal.specs.Outcome.{Accepted}
 use Rattle.refusal.specs.OutcomeLaws.{accepted-ok, accepted-refused, accepted-cond, accepted-mono}
-use Rattle.basics.specs.Tests.{and-left, and-right, Cmp, below, equal, above, cmp, Flag, isTrue, isFalse, flag}
+use Rattle.basics.specs.Tests.{and-left, and-right, Cmp, below, equal, above, cmp, Flag, isTrue, isFalse, flag, neither}
 use Rattle.basics.specs.Members.{clash}
 use Rattle.label.specs.Limits.{firstParameter, parameterCount, firstVariable, variableCount, firstMinimum, minimumCount}
 use Rattle.label.specs.Labels.{areArities}
-use Rattle.label.specs.Renamings.{numbering}
-use Rattle.label.specs.RenamingLaws.{Numbered, numbering-increasing}
 use Rattle.diagram.specs.Sizes.{mostRows, highestValue}
 use Rattle.diagram.specs.Diagram.{Diagram, leaf, eval, relabel}
 use Rattle.diagram.specs.Rows.{rows, onto}
 use Rattle.diagram.specs.Listing.{Fine, Good as Listed}
-use Rattle.diagram.specs.Variables.{occurs, variables, minimums, isPlain, closedFrom, closed, after}
+use Rattle.diagram.specs.Variables.{occurs, variables, minimums, isPlain, closed, after}
 use Rattle.rename.specs.Freeing.{freed, Freeable}
-use Rattle.rename.specs.VariableLaws.{variables-few, minimums-few, terms-numbered, renaming-rows}
-use Rattle.rename.specs.ClosingLaws.{closed-good, closed-twice, after-fit, after-good}
+use Rattle.rename.specs.ClosingLaws.{closed-count as fine-count, closed-good, closed-twice, after-fit, after-good}
 use Rattle.rename.specs.FreeingLaws.{freed-good}
 use Rattle.apply.specs.declared.Operation.{Operation}
 use Rattle.apply.specs.declared.Operation.the-variants.{Sum, Product, Max}
@@ -90,11 +87,7 @@ leaf-value ar s x θ = refl
 
 -- closing up changes no count of rows
 pub closed-count : (ar : List ℕ) (d : Diagram) → areArities ar ≡ true → Fine ar d → length (rows (closed ar d)) ≡ length (rows d)
-unfolding closed closedFrom
-closed-count ar d good fine =
-    renaming-rows ar good (Numbered (variables ar d) (minimums ar d)) (numbering (variables ar d) (minimums ar d) firstVariable firstMinimum)
-    (numbering-increasing (variables ar d) (minimums ar d) firstVariable firstMinimum
-    (omega arith) (omega (arith, variables-few ar d)) (omega arith) (omega (arith, minimums-few ar d))) d fine (terms-numbered ar d fine)
+closed-count ar d good fine = fine-count ar d good fine
 
 -- ===== Combination, names shared =====
 
@@ -160,10 +153,6 @@ module _ (op : Operation) (ar : List ℕ) (a b : Diagram) (good-a : Listed ar a)
   unfolding after
   within-before c x y = within-apply (operate op) c ar (closed ar a) (after ar a b) (within-closed c ar a good-a x)
       (within-closedFrom c ar (firstVariable + length (variables ar a)) (firstMinimum + length (minimums ar a)) b (after-fit ar a b room space) good-b y)
-
-neither : (x y : Bool) → (x || y) ≡ false → (x ≡ false) × (y ≡ false)
-neither true y e = clash refl e
-neither false y e = (refl, e)
 
 -- of a call that is done apart: sum, product and max give the sum, product and max of the numbers
 pub apart-joined : (op : Operation) (names : Names) (ar : List ℕ) (a b : Diagram) → doneAs op names ar a b ≡ Apart → Listed ar a → Listed ar b

@@ -9,12 +9,11 @@ use borrow.Author.Tests.{ltb-false}
 use Rattle.refusal.specs.declared.Refusal.the-variants.{Paths, Minimum}
 use Rattle.refusal.specs.Outcome.{Accepted}
 use Rattle.refusal.specs.OutcomeLaws.{accepted-ok, accepted-refused}
-use Rattle.diagram.specs.Diagram.{Diagram, leaf, branch, same}
+use Rattle.diagram.specs.Diagram.{Diagram, leaf, branch, same, EveryLabel}
 use Rattle.diagram.specs.Rows.{rows}
 use Rattle.diagram.specs.RowLists.{rowTree}
 use Rattle.diagram.specs.Variables.{isPlain}
 use Rattle.rename.specs.ClosingLaws.{closed-good, closed-twice}
-use Rattle.apply.specs.GoodLaws.{EveryLabel}
 use Rattle.state.specs.State.{atomOf, meaning, State}
 use Rattle.state.specs.Terms.{Each, args}
 use Rattle.minimum.specs.PlainLaws.{fine-plain}
@@ -36,7 +35,7 @@ every-pick : (P : ℕ → Type 0) (b : Bool) (x y : Diagram) → EveryLabel P x 
 every-pick P true x y u v = u
 every-pick P false x y u v = v
 
-every-cut : (P : ℕ → Type 0) (r : Diagram) (b : Bool) (d : Diagram) → EveryLabel P d → EveryLabel P (cutAt r b d)
+pub every-cut : (P : ℕ → Type 0) (r : Diagram) (b : Bool) (d : Diagram) → EveryLabel P d → EveryLabel P (cutAt r b d)
 unfolding cutAt
 every-cut P r b (leaf v) h = tt
 every-cut P r b (branch l t f) h = (

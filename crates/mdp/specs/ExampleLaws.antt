@@ -27,15 +27,18 @@ unfolding packed
 run-labels = (refl, refl)
 
 reward-good : Good ar (runModel .reward)
-unfolding isListing areArities isLabel isAtom packed unpacked placeFits isTerm isConstant isParameter isVariable inOrder isLeafRow isBranchRow labelAt highAt lowAt areDistinct equalRows areNumbered finish diagramOf treeAt
+unfolding isListing areArities isLabel isAtom packed unpacked placeFits isTerm isConstant isParameter isVariable inOrder isLeafRow isBranchRow
+    labelAt highAt lowAt areDistinct equalRows areNumbered finish diagramOf treeAt
 reward-good = is-listing-good ar (leafMark ∷ 10 ∷ 0 ∷ leafMark ∷ 0 ∷ 0 ∷ stock hub ∷ 0 ∷ 1 ∷ []) refl
 
 weight-good : Good ar (leaf 3) × Good ar (leaf 1)
-unfolding isListing areArities isLabel isAtom packed unpacked placeFits isTerm isConstant isParameter isVariable inOrder isLeafRow isBranchRow labelAt highAt lowAt areDistinct equalRows areNumbered finish diagramOf treeAt
+unfolding isListing areArities isLabel isAtom packed unpacked placeFits isTerm isConstant isParameter isVariable inOrder isLeafRow isBranchRow
+    labelAt highAt lowAt areDistinct equalRows areNumbered finish diagramOf treeAt
 weight-good = (is-listing-good ar (leafMark ∷ 3 ∷ 0 ∷ []) refl, is-listing-good ar (leafMark ∷ 1 ∷ 0 ∷ []) refl)
 
 truth-good : Good ar runTruth
-unfolding isListing areArities isLabel isAtom packed unpacked placeFits isTerm isConstant isParameter isVariable inOrder isLeafRow isBranchRow labelAt highAt lowAt areDistinct equalRows areNumbered finish diagramOf treeAt
+unfolding isListing areArities isLabel isAtom packed unpacked placeFits isTerm isConstant isParameter isVariable inOrder isLeafRow isBranchRow
+    labelAt highAt lowAt areDistinct equalRows areNumbered finish diagramOf treeAt
 truth-good = is-listing-good ar (leafMark ∷ 1 ∷ 0 ∷ leafMark ∷ 0 ∷ 0 ∷ stock firstVariable ∷ 0 ∷ 1 ∷ equals firstParameter firstVariable ∷ 0 ∷ 2 ∷ []) refl
 
 truth-diagram-good : GoodTruthDiagram ar 1 1 runTruth
@@ -82,7 +85,8 @@ run-model-good = record {
     done (suc (suc p)) d h k e = nothing e
 
 everywhere-reward : Good ar (everywhere .reward)
-unfolding isListing areArities isLabel isAtom packed unpacked placeFits isTerm isConstant isParameter isVariable isMinimum inOrder isLeafRow isBranchRow labelAt highAt lowAt areDistinct equalRows areNumbered finish diagramOf treeAt
+unfolding isListing areArities isLabel isAtom packed unpacked placeFits isTerm isConstant isParameter isVariable isMinimum inOrder isLeafRow isBranchRow
+    labelAt highAt lowAt areDistinct equalRows areNumbered finish diagramOf treeAt
 everywhere-reward = is-listing-good ar (leafMark ∷ 10 ∷ 0 ∷ leafMark ∷ 0 ∷ 0 ∷ stock firstMinimum ∷ 0 ∷ 1 ∷ []) refl
 
 pub everywhere-good : GoodModel everywhere

@@ -118,10 +118,6 @@ module _ (m : Model) where
   unfolding call
   call-backup h = refl
 
-  pub call-cut : (h : Held) → call m aCut h ≡ taken h (cutOutcome (m .arities) (h .diagram)) (h .steps)
-  unfolding call
-  call-cut h = refl
-
   pub call-reduce : (h : Held) → call m aReduce h ≡ taken h (reduceAnswer (m .arities) (h .diagram)) (h .steps)
   unfolding call
   call-reduce h = refl

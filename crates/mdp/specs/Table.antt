@@ -68,7 +68,8 @@ pub table : (shown runModel [] nothingTrue ≡ (0, 0, 1))
     × (run eightModel (replicate 19 aBackup) .steps ≡ 19)
     × (backup eightModel 19 (run eightModel (replicate 19 aBackup) .diagram) ≡ refused Scale)
     × (andThen (truthAt (equalityArity ∷ 2 ∷ replicate (predicateCount - 2) 0) (forFirst (labelTest ab)) ba []) (λ r. ok (r .0)) ≡ ok (labelTest ba))
-unfolding run number meaning scale cutAnswer diagramAnswer combination rowsFormed formed ends pairs pairCount overflows apply backup truthAt variables closed after moved testOf equates renamed numbering freeing mapped placed packed unpacked predicateOf termsOf isVariable
+unfolding run number meaning scale cutAnswer diagramAnswer combination rowsFormed formed ends pairs pairCount overflows apply
+    backup truthAt variables closed after moved testOf equates renamed numbering freeing mapped placed packed unpacked predicateOf termsOf isVariable
 table = (refl, refl, refl, refl, refl, refl, refl, refl, refl, refl)
 
 -- a reward 1 if p(?a ?a), p(?a ?b) or p(?b ?a), the last as "more", and no action
@@ -119,7 +120,8 @@ pub run-rows : listing (run runModel (aBackup ∷ []) .diagram)
     ∷ 281474976710656 ∷ 0 ∷ 3
     ∷ 274877906944 ∷ 2 ∷ 4
     ∷ []
-unfolding listing run scale diagramAnswer combination rowsFormed formed ends pairs pairCount overflows apply backup truthAt variables closed after moved testOf equates renamed numbering freeing mapped placed packed unpacked predicateOf termsOf isVariable
+unfolding listing run scale diagramAnswer combination rowsFormed formed ends pairs pairCount overflows apply
+    backup truthAt variables closed after moved testOf equates renamed numbering freeing mapped placed packed unpacked predicateOf termsOf isVariable
 run-rows = refl
 
 -- Minimum variables (document 02, L12). A max asked for with shared names is done apart if either side has one: 7 if stock(%v0), else 3 if stock(%v1), else 7; shared it would
@@ -133,5 +135,6 @@ pub table-minimum : (combined Max Shared (runModel .arities) (branch (stock firs
     × (reduceAnswer (runModel .arities) (everywhere .reward) ≡ refused Kinds)
     × (shown everywhere (aBackup ∷ []) stockAtHub ≡ (30, 1, 8))
     × (shown everywhere (aBackup ∷ []) nothingTrue ≡ (0, 1, 8))
-unfolding run number meaning scale cutAnswer reduceAnswer combined diagramAnswer combination rowsFormed formed ends pairs pairCount overflows apply backup truthAt variables closed after moved testOf equates renamed numbering freeing mapped placed packed unpacked predicateOf termsOf isConstant isVariable
+unfolding run number meaning scale cutAnswer reduceAnswer combined diagramAnswer combination rowsFormed formed ends pairs pairCount overflows apply
+    backup truthAt variables closed after moved testOf equates renamed numbering freeing mapped placed packed unpacked predicateOf termsOf isConstant isVariable
 table-minimum = (refl, refl, refl, refl, refl, refl, refl)

@@ -15,7 +15,7 @@ use Rattle.diagram.specs.Listing.{listing, diagramOf}
 use Rattle.diagram.specs.ListingOfDiagram.{diagram-listing}
 use Rattle.diagram.specs.Listings.{good-is-listing}
 use Rattle.diagram.specs.Variables.{occurs, occurring}
-use Rattle.state.specs.State.{meaning, Good}
+use Rattle.state.specs.State.{meaning}
 use Rattle.state.specs.Lent.{stateOf, isState}
 use Rattle.state.specs.declared.Valued.{Valued}
 use Rattle.state.specs.declared.Valued.the-variants.{Value, Refused}

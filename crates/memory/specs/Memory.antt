@@ -22,6 +22,7 @@ use Rattle.session.specs.Replies.{Reply, allowed, done, wordsOf, reply}
 use Rattle.session.specs.Texts.{tableOf}
 use Rattle.session.specs.Good.{GoodSession}
 use Rattle.declare.specs.Tables.{namesOf, GoodVocabulary}
+use Rattle.facts.specs.declared.Live.{Live}
 use Rattle.facts.specs.Words.{stateWords, liveOf, GoodLive}
 use Rattle.model.specs.Layout.{listingWords, tableWords, modelOf}
 use Rattle.modelling.specs.Building.{Building}
@@ -128,6 +129,19 @@ pub record Rooms (w : Memory) : Type 0 where
   pub table : tableWords ≤ length (w .table)
   pub state : stateWords ≤ length (w .state)
   pub value : resultWords ≤ length (w .value)
+
+-- the numbers with another state
+abbrev pub withState : Numbers → Live → Numbers
+withState n l = record {
+  part = n .part;
+  total = n .total;
+  discount = n .discount;
+  reward = n .reward;
+  counts = n .counts;
+  head = n .head;
+  live = l;
+  held = n .held;
+}
 
 -- before the first line
 abbrev pub openingNumbers : Numbers

@@ -1,6 +1,6 @@
 -- The words of a line as a pass over its bytes meets them: the first at its place, and the others behind it.
 use mathlib.Core.Path.{_≡_, refl, sym, ap, _∙_}
-use mathlib.Core.Bool.{Bool, true, false, true≢false}
+use mathlib.Core.Bool.{Bool, true, false, true≢false, cond}
 use mathlib.Core.List.{List, [], _∷_, _++_}
 use Prim.Native.Nat.{ℕ, _+_, _≤_}
 use native.Mathlib.Omega.{arith}
@@ -15,7 +15,7 @@ use Rattle.events.specs.declared.Event.the-variants.{Name, Variable, Parameter,
 use Rattle.events.specs.declared.Seen.{Seen}
 use Rattle.events.specs.declared.Next.{Next}
 use Rattle.events.specs.Events.{firstWord}
-use Rattle.events.specs.Front.{pickSeen, isIf, atomFront, numberFront, frontOf, nextAt, isEnd, eventsOf}
+use Rattle.events.specs.Front.{isIf, atomFront, numberFront, frontOf, nextAt, isEnd, eventsOf}
 use Rattle.events.specs.FrontLaws.{next-end, next-more, next-moves}
 use Rattle.events.specs.Contents.{wordAt}
 use Rattle.session.specs.Replies.{wordsOf}
@@ -26,7 +26,7 @@ use Rattle.memory.specs.Memory.{LineOf}
 record Rests (x : Seen) : Type 0 where
   rests : isEnd (x .event) ≡ true → x .taken ≡ 0
 
-pick-rests : (b : Bool) (x y : Seen) → Rests x → Rests y → Rests (pickSeen b x y)
+pick-rests : (b : Bool) (x y : Seen) → Rests x → Rests y → Rests (cond b x y)
 pick-rests true x y p q = p
 pick-rests false x y p q = q
 

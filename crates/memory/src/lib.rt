@@ -9,7 +9,7 @@ ghost use mathlib.Core.Path.{_≡_};
 ghost use mathlib.Core.List.{_++_};
 ghost use Prim.Native.Nat.{_≤_};
 ghost use lib.ListN.{length, drop};
-ghost use Rattle.memory.specs.Memory.{openingNumbers};
+ghost use Rattle.memory.specs.Memory.{openingNumbers, withState};
 ghost use Rattle.memory.specs.Saving.{numberWords, partWord, partOf, flagWord, savedWords, numbersAt, linesAt, metAt};
 
 // A session's numbers: the part of the text, which single forms were accepted, and how much of each lent table counts.
@@ -75,6 +75,26 @@ pub fn opening() -> Numbers
             steps: 0,
             power: 1,
         },
+    }
+}
+
+// The numbers with another state.
+pub fn with_state(n: Numbers, live: Live) -> Numbers
+    ensures { λ r. ⌜ r ≡ withState n live ⌝ }
+{
+    let part = n.part;
+    let counts = n.counts;
+    let head = n.head;
+    let held = n.held;
+    Numbers {
+        part: part,
+        total: n.total,
+        discount: n.discount,
+        reward: n.reward,
+        counts: counts,
+        head: head,
+        live: live,
+        held: held,
     }
 }
 

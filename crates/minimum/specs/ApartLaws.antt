@@ -10,13 +10,12 @@ use borrow.Author.Tests.{eqb-true, eq-eqb}
 use Rattle.basics.specs.Tests.{Either, one, other, either, or-one, or-other, Flag, isTrue, isFalse, flag}
 use Rattle.basics.specs.Members.{mem, clash}
 use Rattle.label.specs.Limits.{firstVariable}
-use Rattle.diagram.specs.Diagram.{Tree, leaf}
+use Rattle.diagram.specs.Diagram.{Tree}
 use Rattle.state.specs.State.{Atomic, State, Good, value, fixed, Fits}
 use Rattle.state.specs.Terms.{Terms}
 use Rattle.state.specs.ValueLaws.{by-low, Terms-mono, value-same}
 use Rattle.state.specs.Highest.{vars, Bound}
 use Rattle.state.specs.HighestLaws.{vars-in, highest-max}
-use Rattle.minimum.specs.Min.{IsMaxMin}
 use Rattle.minimum.specs.MinLaws.{max-min}
 use Rattle.minimum.specs.Number.{Under, Number, number}
 use Rattle.minimum.specs.Operations.{Plain, Fixed, Disjoint, Rises}

@@ -16,7 +16,7 @@ use Rattle.state.specs.Terms.{Each, Terms}
 use Rattle.state.specs.ValueLaws.{by-low, Each-mono, Terms-mono, value-same}
 use Rattle.state.specs.Highest.{maxVals, vars, start, Bound}
 use Rattle.state.specs.HighestLaws.{vars-up, vars-in, start-fits}
-use Rattle.minimum.specs.Min.{IsMin, IsMaxMin, Met}
+use Rattle.minimum.specs.Min.{Met}
 use Rattle.minimum.specs.MinLaws.{max-min-one, max-min-by, max-min-scale}
 use Rattle.minimum.specs.Number.{Under, Lowest, Number, HighestLowest, minVals, below, from, maximums, minimums, number}
 use Rattle.minimum.specs.ReachLaws.{Reach, maxVals-reach, minVals-reach, reach-fits, reach-under, overlay, overlay-kept, overlay-in, overlay-reach}

@@ -15,11 +15,10 @@ use Rattle.label.specs.LabelLaws.{term-below, used-term, label-fits}
 use Rattle.diagram.specs.Diagram.{Tree, Diagram, leaf, branch, relabel}
 use Rattle.diagram.specs.Listing.{Fine}
 use Rattle.diagram.specs.Variables.{occurs, minimums as minimumsOf, isPlain}
-use Rattle.state.specs.State.{Atomic, atomOf, meaning, State, value, Fits}
+use Rattle.state.specs.State.{Atomic, atomOf, meaning, State, value}
 use Rattle.state.specs.Terms.{Each, args, Terms}
 use Rattle.state.specs.ValueLaws.{by-low, Terms-mono, value-same}
 use Rattle.state.specs.Highest.{Highest, maxVals, insert, varsOf, varsIn, vars, start, highest}
-use Rattle.minimum.specs.Min.{IsMaxMin}
 use Rattle.minimum.specs.MinLaws.{max-min}
 use Rattle.minimum.specs.Number.{Under, Number, minVals, below, from, maximums, minimums, number}
 use Rattle.minimum.specs.Operations.{Plain}

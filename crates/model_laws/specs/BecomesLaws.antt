@@ -1,6 +1,6 @@
 -- (becomes (p ?a ..) DIAGRAM): an accepted one keeps a session good.
 use mathlib.Core.Path.{_≡_, sym, subst, _∙_}
-use mathlib.Core.Bool.{false}
+use mathlib.Core.Bool.{false, cond}
 use mathlib.Core.List.{List}
 use mathlib.Core.Option.{some}
 use Prim.Native.Nat.{ℕ, _+_, _≤_, _<_}
@@ -34,7 +34,7 @@ use Rattle.build.specs.Machine.{mostTests, built}
 use Rattle.mdp.specs.Model.{Variant, Action, GoodTruthDiagram, GoodVariant}
 use Rattle.session.specs.declared.Part.the-variants.{Model as ModelPart}
 use Rattle.session.specs.Session.{Names, Session}
-use Rattle.session.specs.Modelling.{mostModelRows, namesFor, rowsWith, pickOption, withTruthAt, lastVariant, truthsNow, isSome, withTruth, truthRead, becomesLine}
+use Rattle.session.specs.Modelling.{mostModelRows, namesFor, rowsWith, withTruthAt, lastVariant, truthsNow, isSome, withTruth, truthRead, becomesLine}
 use Rattle.session.specs.Good.{GoodTables, GoodSession}
 use Rattle.model_laws.specs.OutcomeLaws.{accepted-read}
 use Rattle.model_laws.specs.SessionLaws.{while-model, parts-with}
@@ -85,7 +85,7 @@ truth-put : (ar : List ℕ) (c p : ℕ) (d : Diagram) → GoodTruthDiagram ar c 
 unfolding withTruthAt
 truth-put ar c p d g v h = record { listed = h .listed; weight = h .weight; truths = λ q x l m e. go q x l m e (flag (eqb q p)) }
   where
-    go : (q : ℕ) (x : Diagram) → 0 < q → q < predicateCount → pickOption (eqb q p) (some d) (v .truths q) ≡ some x → Flag (eqb q p) → GoodTruthDiagram ar c (getD ar q 0) x
+    go : (q : ℕ) (x : Diagram) → 0 < q → q < predicateCount → cond (eqb q p) (some d) (v .truths q) ≡ some x → Flag (eqb q p) → GoodTruthDiagram ar c (getD ar q 0) x
     go q x l m e (isTrue z) =
         let y : d ≡ x = (let s : some d ≡ some x = rw z at e in cc) in
         subst (GoodTruthDiagram ar c (getD ar q 0)) y (subst (λ (i : ℕ). GoodTruthDiagram ar c (getD ar i 0) d) (sym (eqb-true q p z)) g)

@@ -7,7 +7,7 @@ use native.Mathlib.Omega.{arith}
 use lib.ListN.{length, length-append}
 use lib.Dec.{ltb, leb}
 use borrow.Author.Tests.{leb-true, leb-false, ltb-false, not-false}
-use Rattle.basics.specs.Tests.{and-left, and-right}
+use Rattle.basics.specs.Tests.{and-left, and-right, neither}
 use Rattle.refusal.specs.declared.Refusal.the-variants.{Name, Range, Space}
 use Rattle.label.specs.Limits.{constantCount, parameterCount}
 use Rattle.words.specs.declared.Key.{Key}
@@ -20,7 +20,6 @@ use Rattle.session.specs.Session.{Names, Session}
 use Rattle.session.specs.Declaring.{isDeclared, constantLine, isTotal, totalLine, isDiscount, discountLine, repeated, actionLine}
 use Rattle.session.specs.Replies.{withNames, withTotal, withDiscount, withAction}
 use Rattle.session.specs.Good.{GoodTables, GoodParts, GoodSession}
-use Rattle.model_laws.specs.OutcomeLaws.{neither}
 use Rattle.model_laws.specs.SessionLaws.{while-model, parts-with}
 use Rattle.model_laws.specs.ActionLaws.{length-more, every-more, last-more, variants-more}
 

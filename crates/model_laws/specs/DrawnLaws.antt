@@ -10,13 +10,12 @@ use Rattle.label.specs.Renamings.{EachIn}
 use Rattle.label.specs.declared.Test.{Test}
 use Rattle.label.specs.declared.Test.the-variants.{Always, Is}
 use Rattle.diagram.specs.Sizes.{mostRows, highestValue}
-use Rattle.diagram.specs.Diagram.{Diagram, leaf, branch, relabel, eval, Ordered, Reduced}
+use Rattle.diagram.specs.Diagram.{Diagram, leaf, branch, relabel, eval, Ordered, Reduced, EveryLabel}
 use Rattle.diagram.specs.Rows.{rows}
 use Rattle.diagram.specs.Listing.{Fine, Good}
 use Rattle.rename.specs.Ascending.{All}
 use Rattle.rename.specs.TermLaws.{each-terms}
 use Rattle.rename.specs.ClosingLaws.{closed-good, closed-twice}
-use Rattle.apply.specs.GoodLaws.{EveryLabel}
 use Rattle.state.specs.State.{atomOf, meaning}
 use Rattle.state.specs.Terms.{Each, Terms}
 use Rattle.state.specs.ValueLaws.{Terms-mono}
@@ -29,9 +28,10 @@ use Rattle.reduction.specs.ClosedLaws.{within-closed}
 use Rattle.mdp.specs.CallLaws.{closed-count}
 use Rattle.reading.specs.Tree.{Reading, depth, opsOf, Reach, Named, GoodTest, GoodReading}
 use Rattle.reading.specs.Tree.Reading.{branch as conditional, number}
+use Rattle.build.specs.Written.{diagramFor}
 use Rattle.build.specs.Machine.{mostTests, built, builtClosed}
 use Rattle.build.specs.MachineLaws.{built-text, built-reward}
-use Rattle.build.specs.ReadingLaws.{diagramFor, text-held, reward-held}
+use Rattle.build.specs.ReadingLaws.{text-held, reward-held}
 use Rattle.session.specs.Good.{GoodValue}
 
 -- a label under the arity list that has only terms of P

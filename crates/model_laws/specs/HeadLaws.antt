@@ -1,6 +1,6 @@
 -- The head of (becomes (p ?a ..) DIAGRAM).
 use mathlib.Core.Path.{_≡_, refl, subst}
-use mathlib.Core.Bool.{Bool, true, false}
+use mathlib.Core.Bool.{Bool, true, false, cond}
 use mathlib.Core.List.{List, [], _∷_, _++_, map}
 use Prim.Native.Nat.{ℕ, zero, suc, _+_}
 use native.Mathlib.Omega.{arith}
@@ -14,7 +14,6 @@ use Rattle.names.specs.Keys.{isAmong}
 use Rattle.events.specs.declared.Event.{Event}
 use Rattle.events.specs.declared.Event.the-variants.{Holds}
 use Rattle.events.specs.Events.{variableEvent}
-use Rattle.reading.specs.Reading.{pickJudged}
 use Rattle.reading.specs.Reading.Judged.{fine, refused}
 use Rattle.reading.specs.JudgedLaws.{apart, fine-one, chosen}
 use Rattle.reading.specs.Head.{Head, argumentsFrom, headArguments}
@@ -33,7 +32,7 @@ arguments-headed (v ∷ vs) zero ks es h l e = absurd (omega arith)
 arguments-headed (v ∷ vs) (suc n) ks es h l e = go (isAmong (keyOf v) ks) (arguments-headed vs n (ks ++ (keyOf v ∷ [])) es h (omega arith)) e
   where
     go : (b : Bool) → (argumentsFrom n (ks ++ (keyOf v ∷ [])) (map variableEvent vs ++ es) ≡ fine h → Headed (length (ks ++ (keyOf v ∷ [])) + n) es h)
-        → pickJudged b (refused Name) (argumentsFrom n (ks ++ (keyOf v ∷ [])) (map variableEvent vs ++ es)) ≡ fine h → Headed (length ks + suc n) es h
+        → cond b (refused Name) (argumentsFrom n (ks ++ (keyOf v ∷ [])) (map variableEvent vs ++ es)) ≡ fine h → Headed (length ks + suc n) es h
     go true ih z = absurd (apart z)
     go false ih z = let x = ih z in record { count = omega (arith, x .count, length-append ks (keyOf v ∷ [])); rest = x .rest }
 

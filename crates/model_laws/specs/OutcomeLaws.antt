@@ -1,6 +1,5 @@
 -- Steps that may be refused: what holds of the answer.
 use mathlib.Core.Path.{_≡_, refl}
-use mathlib.Core.Bool.{Bool, true, false, _||_, true≢false}
 use Rattle.refusal.specs.Outcome.{Outcome, andThen, Accepted}
 use Rattle.refusal.specs.OutcomeLaws.{accepted-refused}
 use Rattle.reading.specs.Reading.{Judged}
@@ -11,8 +10,3 @@ use Rattle.session.specs.Modelling.{outcomeOf}
 pub accepted-read : {A B : Type 0} {P : B → Type 0} (j : Judged A) (f : A → Outcome B) → ((a : A) → j ≡ fine a → Accepted P (f a)) → Accepted P (andThen (outcomeOf j) f)
 accepted-read (fine a) f h = h a refl
 accepted-read (refused r) f h = accepted-refused
-
--- two tests that both fail
-pub neither : (a b : Bool) → (a || b) ≡ false → (a ≡ false) × (b ≡ false)
-neither true b e = absurd (true≢false e)
-neither false b e = (refl, e)

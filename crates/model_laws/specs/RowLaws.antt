@@ -31,7 +31,7 @@ use Rattle.reading.specs.Head.{openedNumber, headNumber, headArguments}
 use Rattle.build.specs.Machine.{built}
 use Rattle.session.specs.Session.{Names, Session}
 use Rattle.session.specs.Modelling.{mostModelRows, namesFor, rowsWith, withReward, rewardRead, rewardLine, addVariant, noTruths, withVariant, weightRead, variantLine}
-use Rattle.session.specs.Modelling.{pickOption, withTruthAt, lastTruths, lastVariant, truthsOfLast, truthsNow, isSome, withTruth, truthRead, becomesLine}
+use Rattle.session.specs.Modelling.{withTruthAt, lastTruths, lastVariant, truthsOfLast, truthsNow, isSome, withTruth, truthRead, becomesLine}
 use Rattle.session.specs.Replies.{withAction}
 use Rattle.session.specs.Good.{LastAction, GoodSession}
 use Rattle.model_laws.specs.ModelRows.{rowsIn, truthRows, variantRows, actionRows, modelRows, Counted}
@@ -49,11 +49,11 @@ module _ (truths : Truths) (p : ℕ) (d : Diagram) where
   -- at another predicate
   other-rows : (n : ℕ) → (n ≡ p → ⊥) → rowsIn (withTruthAt truths p d n) ≡ rowsIn (truths n)
   unfolding withTruthAt
-  other-rows n h = ap (λ (b : Bool). rowsIn (pickOption b (some d) (truths n))) (ne-eqb n p h)
+  other-rows n h = ap (λ (b : Bool). rowsIn (cond b (some d) (truths n))) (ne-eqb n p h)
 
   own-rows : (n : ℕ) → n ≡ p → rowsIn (withTruthAt truths p d n) ≡ length (rows d)
   unfolding withTruthAt rowsIn
-  own-rows n h = ap (λ (b : Bool). rowsIn (pickOption b (some d) (truths n))) (eq-eqb n p h)
+  own-rows n h = ap (λ (b : Bool). rowsIn (cond b (some d) (truths n))) (eq-eqb n p h)
 
   below-rows : (n : ℕ) → n ≤ p → truthRows n (withTruthAt truths p d) ≡ truthRows n truths
   unfolding truthRows

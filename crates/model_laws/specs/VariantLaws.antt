@@ -7,7 +7,7 @@ use native.Mathlib.Omega.{arith}
 use lib.ListN.{length}
 use lib.Dec.{leb, ltb}
 use borrow.Author.Tests.{leb-false, ltb-false}
-use Rattle.basics.specs.Tests.{Cmp, below, equal, above, cmp}
+use Rattle.basics.specs.Tests.{Cmp, below, equal, above, cmp, neither}
 use Rattle.refusal.specs.declared.Refusal.the-variants.{Name, Space}
 use Rattle.label.specs.Limits.{firstParameter, firstVariable}
 use Rattle.words.specs.declared.Key.{Key}
@@ -31,7 +31,7 @@ use Rattle.session.specs.declared.Part.the-variants.{Model as ModelPart}
 use Rattle.session.specs.Session.{Names, Session}
 use Rattle.session.specs.Modelling.{mostModelRows, namesFor, rowsWith, addVariant, noTruths, withVariant, weightRead, variantLine}
 use Rattle.session.specs.Good.{GoodTables, LastAction, GoodSession}
-use Rattle.model_laws.specs.OutcomeLaws.{accepted-read, neither}
+use Rattle.model_laws.specs.OutcomeLaws.{accepted-read}
 use Rattle.model_laws.specs.SessionLaws.{while-model, parts-with}
 use Rattle.model_laws.specs.ActionLaws.{length-more, length-added, last-added, every-added, variants-added, variants-most}
 use Rattle.model_laws.specs.DrawnLaws.{Read}

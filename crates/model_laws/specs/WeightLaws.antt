@@ -12,7 +12,7 @@ use Rattle.refusal.specs.Outcome.{ok, Accepted, Outcome, refused, andThen}
 use Rattle.refusal.specs.OutcomeLaws.{accepted-ok, accepted-refused, accepted-then, accepted-cond, accepted-mono, accepted-next}
 use Rattle.label.specs.Limits.{firstParameter}
 use Rattle.label.specs.Labels.{areArities, unpacked, termsOf}
-use Rattle.diagram.specs.Diagram.{Diagram, leaf, branch, relabel}
+use Rattle.diagram.specs.Diagram.{Diagram, leaf, branch, relabel, EveryLabel}
 use Rattle.state.specs.State.{State, Good, atomOf, meaning, value}
 use Rattle.state.specs.Terms.{Each, Terms}
 use Rattle.state.specs.Max.{Tuple, sumOf}
@@ -31,9 +31,10 @@ use Rattle.apply.specs.declared.Combined.the-variants.{Done, Refused}
 use Rattle.apply.specs.Pairs.{pairs, pairCount, overflows}
 use Rattle.apply.specs.Combination.{operate, leftOperand, rightOperand, tooMany, rowsFormed, combination, diagramAnswer}
 use Rattle.apply.specs.ApplyLaws.{eval-apply}
-use Rattle.apply.specs.GoodLaws.{EveryLabel, every-apply}
+use Rattle.apply.specs.GoodLaws.{every-apply}
 use Rattle.paths.specs.Paths.{paths, mostPaths}
-use Rattle.cutting.specs.TruthLaws.{says, value-says}
+use Rattle.cutting.specs.Truth.{says}
+use Rattle.cutting.specs.TruthLaws.{value-says}
 use Rattle.contradiction.specs.Contradiction.{leadsTo}
 use Rattle.contradiction.specs.ContradictionLaws.{leads-complete, leads-sound}
 use Rattle.contradiction.specs.StateLaws.{leads-value}

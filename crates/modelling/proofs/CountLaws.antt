@@ -1,11 +1,10 @@
 -- Laws of counting the variants of the first actions.
-use mathlib.Core.Path.{_≡_, refl, sym, ap, _∙_}
+use mathlib.Core.Path.{_≡_, refl, ap, _∙_}
 use mathlib.Core.List.{List}
 use Prim.Native.Nat.{ℕ, suc, _+_, _*_, _≤_, _<_}
 use native.Mathlib.Omega.{arith}
-use lib.ListN.{length}
 use Rattle.mdp.specs.Model.{mostVariants}
-use Rattle.model.specs.Layout.{actionWords, variantsOf}
+use Rattle.model.specs.Layout.{variantsOf}
 use Rattle.modelling.specs.Building.{variantsBefore, FewVariants}
 use Rattle.modelling.specs.NameLaws.{before-few}
 

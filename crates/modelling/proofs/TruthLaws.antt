@@ -21,7 +21,7 @@ use Rattle.regression.specs.RegressCall.{truthsOf}
 use Rattle.mdp.specs.Model.{Variant, Action, mostVariants}
 use Rattle.model.specs.declared.Head.{Head}
 use Rattle.model.specs.Layout.{part, variantWords, actionWords, variantPlace, weightWords, spansAt, variantAt, variantsOf, actionAt, modelOf}
-use Rattle.session.specs.Modelling.{lastVariant, lastTruths, withTruthAt, pickOption, truthsNow, truthsOfLast, isSome}
+use Rattle.session.specs.Modelling.{lastVariant, lastTruths, withTruthAt, truthsNow, truthsOfLast, isSome}
 use Rattle.modelling.specs.Building.{modelWith, Inside, truthPlace, SpannedVariant, SpannedAction, Canonical, ListedVariant, Listed, withActions, RowsRoom, TruthRoom}
 use Rattle.modelling.specs.Building.{HasTruth, TruthAdded, lastPlace, TruthPlaced, moreWords}
 use Rattle.modelling.specs.WordLaws.{Same, variantOf, actionOf, actionUse, part-under, truth-none, truth-here, truth-same, truths-over, span-same, action-same, variant-same}
@@ -187,13 +187,13 @@ module _ {l l′ t out : List ℕ} {h : Head} {rows p : ℕ} (r : RowsRoom l h o
   truth-is : (k : ℕ) → Flag (eqb k p) → truthsOf l′ (spansAt t′ i) k ≡ withTruthAt (truthsOf l (spansAt t i)) p d k
   unfolding withTruthAt
   truth-is k (isTrue z) =
-      ap (truthsOf l′ (spansAt t′ i)) (eqb-true k p z) ∙ new-truth ∙ sym (ap (λ (b : Bool). pickOption b (some d) (truthsOf l (spansAt t i) k)) z)
+      ap (truthsOf l′ (spansAt t′ i)) (eqb-true k p z) ∙ new-truth ∙ sym (ap (λ (b : Bool). cond b (some d) (truthsOf l (spansAt t i) k)) z)
   truth-is k (isFalse z) =
       let w = other-truth k (eqb-false k p z) in
       by-low (truthsOf l′ (spansAt t′ i) k ≡ truthsOf l (spansAt t i) k) predicateCount k
       (λ y. truth-same l l′ t t′ (h .words) (c .before) i k y (w .0) (w .1) (last-variant .truths k y))
       (truths-over l l′ t t′ (h .words) (c .before) i k)
-      ∙ sym (ap (λ (b : Bool). pickOption b (some d) (truthsOf l (spansAt t i) k)) z)
+      ∙ sym (ap (λ (b : Bool). cond b (some d) (truthsOf l (spansAt t i) k)) z)
 
   variant-is : variantAt l′ t′ i ≡ variantOf (variantAt l t i .weight) (withTruthAt (variantAt l t i .truths) p d)
   unfolding variantAt

@@ -23,7 +23,7 @@ use Rattle.freeing.specs.FreeTasks.{FreeTask, FreedWith}
 use Rattle.mdp.specs.StepLaws.{own-within}
 use Rattle.mdp.specs.CallLaws.{closed-count, freed-to}
 use Rattle.steps.specs.declared.Step.{Step}
-use Rattle.steps.specs.declared.Step.the-variants.{Rows, Refused}
+use Rattle.steps.specs.declared.Step.the-variants.{Rows}
 use Rattle.steps.specs.Steps.{Result, Given}
 use Rattle.planner.specs.Parts.{freedUp}
 use Rattle.planner.specs.Tasks.{freedStep, FreeUp}

@@ -34,7 +34,7 @@ use Rattle.cutting.specs.ReduceLaws.{cut-good}
 use Rattle.cut.specs.Calls.{Cuttable}
 use Rattle.mdp.specs.Model.{Model, scale}
 use Rattle.mdp.specs.Backup.{backup}
-use Rattle.mdp.specs.Runs.{aBackup, Held as Value, leaves, cutOutcome, taken, call, begin, run}
+use Rattle.mdp.specs.Runs.{aBackup, Held as Value, leaves, cutOutcome, taken, call, begin}
 use Rattle.mdp.specs.StepLaws.{cut-done, cut-refused, call-backup}
 use Rattle.model.specs.declared.Head.{Head}
 use Rattle.model.specs.Layout.{rewardWords, modelOf, Laid}

@@ -1,10 +1,9 @@
 -- Runs of backups, cuts and reductions on a model in lent words (document 01, section 'Backup': "the value diagram starts as the reward read, k as 0").
 use mathlib.Core.Path.{_≡_}
-use mathlib.Core.Bool.{true, cond}
-use mathlib.Core.List.{List, [], _∷_}
+use mathlib.Core.Bool.{true}
+use mathlib.Core.List.{List}
 use Prim.Native.Nat.{ℕ, _+_, _*_, _/_, _^_, _≤_}
 use lib.ListN.{length, take}
-use lib.Dec.{eqb}
 use Rattle.refusal.specs.Outcome.{Outcome}
 use Rattle.diagram.specs.Sizes.{resultWords, spaceWords}
 use Rattle.diagram.specs.Diagram.{Diagram}
@@ -14,7 +13,6 @@ use Rattle.state.specs.State.{meaning}
 use Rattle.regression.specs.Parameters.{Within}
 use Rattle.mdp.specs.Model.{Model, scale}
 use Rattle.mdp.specs.Backup.{mostSteps}
-use Rattle.mdp.specs.Runs.{Call, aBackup, aCut}
 use Rattle.mdp.specs.Runs as mdp
 use Rattle.model.specs.declared.Head.{Head}
 use Rattle.model.specs.Layout.{rewardWords}

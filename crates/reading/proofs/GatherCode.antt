@@ -30,7 +30,6 @@ use Rattle.reading.specs.declared.Numbered.the-variants as N
 use Rattle.reading.specs.declared.Gathered.{Gathered}
 use Rattle.reading.specs.declared.Gathered.the-variants as G
 use Rattle.reading.specs.Reading.{Judged, Written, reading}
-use Rattle.reading.specs.Head.{argumentOf}
 use Rattle.reading.specs.Occurrences.{minimumOf, variableOf, wordKeys, keysOf}
 use Rattle.reading.specs.Numbering.{isNumbered, allNumbered, rewardReading}
 use Rattle.reading.specs.NumberingLaws.{kept-reading}
@@ -74,9 +73,6 @@ minimum-named e p = rw p
 
 -- a word of a kind
 module _ (e : Event) {a : Argument} (c : Kind) where
-  pub of-maximum : c ≡ K.Maximum → a ≡ argumentOf e → a ≡ variableOf c e
-  of-maximum q p = rw q p
-
   pub of-minimum : c ≡ K.Minimum → a ≡ minimumOf e → a ≡ variableOf c e
   of-minimum q p = rw q p
 

@@ -1,7 +1,7 @@
 -- What the code of a (becomes) head needs to know.
 use Prim.Native.Nat.{ℕ, suc, _+_, _-_, _*_, _≤_, _<_}
 use mathlib.Core.Path.{_≡_, refl, sym, ap, _∙_}
-use mathlib.Core.Bool.{Bool, true, false}
+use mathlib.Core.Bool.{Bool, true, false, cond}
 use mathlib.Core.List.{List, [], _∷_, _++_}
 use native.Mathlib.Omega.{arith}
 use borrow.Author.Tests.{eq-eqb, ne-eqb}
@@ -25,9 +25,9 @@ use Rattle.reading.specs.declared.Argument.the-variants as A
 use Rattle.reading.specs.declared.Opened.the-variants as P
 use Rattle.reading.specs.declared.Headed.{Headed}
 use Rattle.reading.specs.declared.Headed.the-variants as H
-use Rattle.reading.specs.Reading.{pickJudged}
+use Rattle.reading.specs.Reading.{Judged}
 use Rattle.reading.specs.Reading.Judged.{fine, refused}
-use Rattle.reading.specs.Head.{openingOf, argumentOf, openedNumber, headNumber, pickArgument, argumentsFrom, openedArguments, headArguments}
+use Rattle.reading.specs.Head.{Head, openingOf, argumentOf, openedNumber, headNumber, pickArgument, argumentsFrom, openedArguments, headArguments}
 use Rattle.reading.specs.Callers.{Opens, Heads}
 use Rattle.reading.proofs.WordCode.{moves}
 
@@ -86,15 +86,19 @@ arguments-at line place n = go (standing line place)
     go (ends e b) = rw (e, end-opening (nextAt line place .event) b)
     go (goes b) = rw (next-more line place b)
 
+-- an argument, the keys vs before it, and n more behind it in the words es
+abbrev argumentThen : ℕ → List Key → List Event → Argument → Judged Head
+argumentThen n vs es a = pickArgument a (λ k. cond (isAmong k vs) (refused Name) (argumentsFrom n (vs ++ (k ∷ [])) es))
+
 from-at : (line : List ℕ) (place n : ℕ) (vs : List Key)
     → argumentsFrom (suc n) vs (eventsOf (drop place line))
-    ≡ pickArgument (argumentOf (nextAt line place .event)) (λ k. pickJudged (isAmong k vs) (refused Name) (argumentsFrom n (vs ++ (k ∷ [])) (eventsOf (drop (nextAt line place .place) line))))
+    ≡ argumentThen n vs (eventsOf (drop (nextAt line place .place) line)) (argumentOf (nextAt line place .event))
 unfolding argumentsFrom
 from-at line place n vs = go (standing line place)
   where
     go : Standing line place
         → argumentsFrom (suc n) vs (eventsOf (drop place line))
-        ≡ pickArgument (argumentOf (nextAt line place .event)) (λ k. pickJudged (isAmong k vs) (refused Name) (argumentsFrom n (vs ++ (k ∷ [])) (eventsOf (drop (nextAt line place .place) line))))
+        ≡ argumentThen n vs (eventsOf (drop (nextAt line place .place) line)) (argumentOf (nextAt line place .event))
     go (ends e b) = rw (e, end-argument (nextAt line place .event) b)
     go (goes b) = rw (next-more line place b)
 
@@ -166,13 +170,13 @@ module _ {line : List ℕ} {place₀ arity : ℕ} {vs₀ vs : List ℕ} {place n
 
   module _ (h : n < arity) {x : Next} (q : x ≡ nextAt line place) {a : Argument} (t : a ≡ argumentOf (x .event)) where
     next-is : (b : Argument) → a ≡ b → argumentsFrom arity [] (eventsOf (drop place₀ line))
-        ≡ pickArgument b (λ k. pickJudged (isAmong k (keysAt vs 0 n)) (refused Name) (argumentsFrom (arity - (n + 1)) (keysAt vs 0 n ++ (k ∷ [])) (eventsOf (drop (x .place) line))))
+        ≡ argumentThen (arity - (n + 1)) (keysAt vs 0 n) (eventsOf (drop (x .place) line)) b
     next-is b e =
         l .still
         ∙ ap (λ m. argumentsFrom m (keysAt vs 0 n) (eventsOf (drop place line))) (omega (arith, h))
         ∙ from-at line place (arity - (n + 1)) (keysAt vs 0 n)
-        ∙ ap (λ (y : Next). pickArgument (argumentOf (y .event)) (λ k. pickJudged (isAmong k (keysAt vs 0 n)) (refused Name) (argumentsFrom (arity - (n + 1)) (keysAt vs 0 n ++ (k ∷ [])) (eventsOf (drop (y .place) line))))) (sym q)
-        ∙ ap (λ c. pickArgument c (λ k. pickJudged (isAmong k (keysAt vs 0 n)) (refused Name) (argumentsFrom (arity - (n + 1)) (keysAt vs 0 n ++ (k ∷ [])) (eventsOf (drop (x .place) line))))) (sym t ∙ e)
+        ∙ ap (λ (y : Next). argumentThen (arity - (n + 1)) (keysAt vs 0 n) (eventsOf (drop (y .place) line)) (argumentOf (y .event))) (sym q)
+        ∙ ap (argumentThen (arity - (n + 1)) (keysAt vs 0 n) (eventsOf (drop (x .place) line))) (sym t ∙ e)
 
     pub arguments-other : a ≡ A.Other → Heads line arity (argumentsFrom arity [] (eventsOf (drop place₀ line))) (H.Refused Form) vs
     arguments-other e = record { answer = sym (next-is A.Other e); within = tt }

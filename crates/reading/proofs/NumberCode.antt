@@ -24,7 +24,7 @@ use Rattle.reading.specs.declared.Numbered.{Numbered}
 use Rattle.reading.specs.declared.Numbered.the-variants as N
 use Rattle.reading.specs.declared.Pair.{Pair}
 use Rattle.reading.specs.Numbering.{takes, isNumbered, numberOf}
-use Rattle.reading.specs.Gathering.{pickNumbered, wholeNumber, numberedAs, paired, moved, Spelt, Insertable}
+use Rattle.reading.specs.Gathering.{wholeNumber, numberedAs, paired, moved, Spelt, Insertable}
 use Rattle.reading.specs.Callers.{Part, Meets}
 
 -- ===== The bytes of a key =====
@@ -157,7 +157,7 @@ module _ (s : List ℕ) {b : ℕ} (q : b ≡ getD s 0 0) where
   unfolding isNumbered numberOf
   name-whole e p g = g ∙ ap wholeNumber p ∙ rw (eq-eqb (getD s 0 0) 118 (sym q ∙ e)) (go (takes (length (drop 1 s)) (numberForm (drop 1 s))))
     where
-      go : (x : Bool) → pickNumbered x (N.Number (decimal (drop 1 s))) N.Other ≡ pickNumbered x (N.Number (cond x (decimal (drop 1 s)) 0)) N.Other
+      go : (x : Bool) → cond x (N.Number (decimal (drop 1 s))) N.Other ≡ cond x (N.Number (cond x (decimal (drop 1 s)) 0)) N.Other
       go true = refl
       go false = refl
 
@@ -189,21 +189,21 @@ module _ (s : List ℕ) {t : Numbered} (q : t ≡ numberedAs s) where
   pub order-number : {n : ℕ} → t ≡ N.Number n → n ≡ numberOf s
   order-number {n} e = go (isNumbered s) (sym e ∙ q)
     where
-      go : (b : Bool) → N.Number n ≡ pickNumbered b (N.Number (numberOf s)) N.Other → n ≡ numberOf s
+      go : (b : Bool) → N.Number n ≡ cond b (N.Number (numberOf s)) N.Other → n ≡ numberOf s
       go true z = cc
       go false z = let y : _≡_ {A = ℕ} 0 1 = cc in absurd (omega arith)
 
   pub order-is : {n : ℕ} → t ≡ N.Number n → isNumbered s ≡ true
   order-is {n} e = go (isNumbered s) (sym e ∙ q)
     where
-      go : (b : Bool) → N.Number n ≡ pickNumbered b (N.Number (numberOf s)) N.Other → b ≡ true
+      go : (b : Bool) → N.Number n ≡ cond b (N.Number (numberOf s)) N.Other → b ≡ true
       go true z = refl
       go false z = let y : _≡_ {A = ℕ} 0 1 = cc in absurd (omega arith)
 
   pub order-not : t ≡ N.Other → isNumbered s ≡ false
   order-not e = go (isNumbered s) (sym e ∙ q)
     where
-      go : (b : Bool) → N.Other ≡ pickNumbered b (N.Number (numberOf s)) N.Other → b ≡ false
+      go : (b : Bool) → N.Other ≡ cond b (N.Number (numberOf s)) N.Other → b ≡ false
       go true z = let y : _≡_ {A = ℕ} 0 1 = cc in absurd (omega arith)
       go false z = refl
 

@@ -1,7 +1,7 @@
 -- What the code of words needs to know: a word by its kind, and the words of a line one after another.
 use Prim.Native.Nat.{ℕ, _-_, _*_, _≤_, _<_}
 use mathlib.Core.Path.{_≡_, refl, sym, ap, ap₂, subst, _∙_}
-use mathlib.Core.Bool.{Bool, true, false, _&&_}
+use mathlib.Core.Bool.{Bool, true, false, _&&_, cond}
 use mathlib.Core.List.{List, [], _∷_}
 use native.Mathlib.Omega.{arith}
 use borrow.Author.Tests.{le-leb, lt-leb}
@@ -30,10 +30,10 @@ use Rattle.reading.specs.declared.Resolved.{Resolved}
 use Rattle.reading.specs.declared.Read.{Read}
 use Rattle.reading.specs.declared.Read.the-variants as W
 use Rattle.reading.specs.Operations.{Op, opOf, opsIn}
-use Rattle.reading.specs.Reading.{Names, Met, State, pickJudged, andThen, more, begun, termWord, numberWord, atomWord, constantNumber, parameterNumber}
+use Rattle.reading.specs.Reading.{Names, Met, State, andThen, more, begun, termWord, numberWord, atomWord, constantNumber, parameterNumber}
 use Rattle.reading.specs.Reading.{variableNumber, minimumNumber, arguments, metAt, word, with-pass, readWord, readWords, finished, begin, reading}
 use Rattle.reading.specs.Reading.Judged.{fine, refused}
-use Rattle.reading.specs.Callers.{partWords, metIn, argumentCount, namesOf, passOf, stateOf, judgedNumber, judgedPass, pickRead, readAnswer, refusedRead, judgedWritten}
+use Rattle.reading.specs.Callers.{partWords, metIn, argumentCount, namesOf, passOf, stateOf, judgedNumber, judgedPass, readAnswer, refusedRead, judgedWritten}
 use Rattle.reading.specs.Callers.{ReadWithin, Reads, Variables, Readable, Going, Room, Advanced, AdvancedBy, Resolves, MeetsWord, Goes, Steps}
 use Rattle.reading.proofs.FillCode.{empty-unpacked, empty-packs, empty-unfilled}
 
@@ -95,15 +95,15 @@ answer-finished : (vs : List ℕ) (n : Known) (os : List ℕ) (p : Progress) →
 answer-finished vs n os p =
     rw (length-keys vs 0 (n .variables), length-keys vs partWords (n .minimums)) (go (leb (n .variables) variableCount && leb (n .minimums) minimumCount))
   where
-    go : (b : Bool) → judgedWritten vs os (pickRead b (W.Done (p .operations) n) (W.Refused F.Variables))
-        ≡ pickJudged b (fine (record { met = metIn vs n; operations = opsIn os (p .operations) })) (refused F.Variables)
+    go : (b : Bool) → judgedWritten vs os (cond b (W.Done (p .operations) n) (W.Refused F.Variables))
+        ≡ cond b (fine (record { met = metIn vs n; operations = opsIn os (p .operations) })) (refused F.Variables)
     go true = refl
     go false = refl
 
 answer-within : (os : List ℕ) (n : Known) (m : ℕ) → m * 2 ≤ length os → ReadWithin os (readAnswer n m)
 answer-within os n m h = go (leb (n .variables) variableCount && leb (n .minimums) minimumCount)
   where
-    go : (b : Bool) → ReadWithin os (pickRead b (W.Done m n) (W.Refused F.Variables))
+    go : (b : Bool) → ReadWithin os (cond b (W.Done m n) (W.Refused F.Variables))
     go true = h
     go false = tt
 

@@ -1,7 +1,7 @@
 -- What the code's structs and answers stand for, and what its functions ask of their callers and promise.
 use Prim.Native.Nat.{ℕ, _+_, _*_, _≤_, _<_}
 use mathlib.Core.Path.{_≡_}
-use mathlib.Core.Bool.{Bool, true, false, _&&_}
+use mathlib.Core.Bool.{true, _&&_, cond}
 use lib.Dec.{leb}
 use mathlib.Core.List.{List}
 use lib.ListN.{length, take, drop, set}
@@ -89,13 +89,9 @@ judgedPass os (S.Refused r) = refused r
 abbrev pub stateOf : List ℕ → Known → List ℕ → Progress → State
 stateOf vs n os p = record { met = metIn vs n; pass = passOf os p }
 
-abbrev pub pickRead : Bool → Read → Read → Read
-pickRead true x y = x
-pickRead false x y = y
-
 -- the answer after all words, with n variables and m operations
 abbrev pub readAnswer : Known → ℕ → Read
-readAnswer n m = pickRead (leb (n .variables) variableCount && leb (n .minimums) minimumCount) (W.Done m n) (W.Refused F.Variables)
+readAnswer n m = cond (leb (n .variables) variableCount && leb (n .minimums) minimumCount) (W.Done m n) (W.Refused F.Variables)
 
 abbrev pub refusedRead : Stepped → Read
 refusedRead (S.Done p) = W.Refused F.Form

@@ -1,7 +1,7 @@
 -- The variables of one kind of a reward gathered by ascending N in their part of a table, as the code does it: what its functions ask of their callers and promise.
 use Prim.Native.Nat.{ℕ, _+_, _≤_}
 use mathlib.Core.Path.{_≡_}
-use mathlib.Core.Bool.{Bool, true, false}
+use mathlib.Core.Bool.{true, false, cond}
 use mathlib.Core.List.{List, [], _∷_, _++_}
 use lib.Dec.{eqb, ltb, leb}
 use lib.ListN.{length, take}
@@ -17,41 +17,33 @@ use Rattle.reading.specs.declared.Pair.{Pair}
 use Rattle.reading.specs.declared.Gathered.{Gathered}
 use Rattle.reading.specs.declared.Gathered.the-variants as G
 use Rattle.events.specs.declared.Event.{Event}
-use Rattle.reading.specs.Reading.{pickKeys, Met}
+use Rattle.reading.specs.Reading.{Met}
 use Rattle.reading.specs.Occurrences.{variableKeys, minimumKeys}
 use Rattle.reading.specs.Numbering.{takes, isNumbered, numberOf, allNumbered}
 use Rattle.reading.specs.Callers.{Part}
 
-abbrev pub pickNumbered : Bool → Numbered → Numbered → Numbered
-pickNumbered true x y = x
-pickNumbered false x y = y
-
 -- the N that the bytes write, or that they are no number
 abbrev pub wholeNumber : List ℕ → Numbered
-wholeNumber s = pickNumbered (takes (length s) (numberForm s)) (N.Number (decimal s)) N.Other
+wholeNumber s = cond (takes (length s) (numberForm s)) (N.Number (decimal s)) N.Other
 
 -- the N of a name, or that it is not written so
 abbrev pub numberedAs : List ℕ → Numbered
-numberedAs n = pickNumbered (isNumbered n) (N.Number (numberOf n)) N.Other
-
-abbrev pub pickPair : Bool → Pair → Pair → Pair
-pickPair true x y = x
-pickPair false x y = y
+numberedAs n = cond (isNumbered n) (N.Number (numberOf n)) N.Other
 
 -- two variables with their N, by ascending N, and the greater N
 abbrev pub paired : Key → ℕ → Key → ℕ → Pair
-paired x n y m = pickPair (ltb n m) (record { low = x; high = y; order = m }) (record { low = y; high = x; order = n })
+paired x n y m = cond (ltb n m) (record { low = x; high = y; order = m }) (record { low = y; high = x; order = n })
 
 -- a variable sorted in, each greater one moved up by one place
 unfoldable pub moved : Key → List Key → List Key
 moved k [] = k ∷ []
 moved k (x ∷ xs) =
-    pickKeys (ltb (numberOf (nameOf k)) (numberOf (nameOf x))) (k ∷ moved x xs)
-    (pickKeys (eqb (numberOf (nameOf k)) (numberOf (nameOf x))) (x ∷ xs) (x ∷ moved k xs))
+    cond (ltb (numberOf (nameOf k)) (numberOf (nameOf x))) (k ∷ moved x xs)
+    (cond (eqb (numberOf (nameOf k)) (numberOf (nameOf x))) (x ∷ xs) (x ∷ moved k xs))
 
 -- one more than the limit is kept
 abbrev pub movedIn : List Key → Key → List Key
-movedIn vs k = pickKeys (leb (length vs) variableCount) (moved k vs) vs
+movedIn vs k = cond (leb (length vs) variableCount) (moved k vs) vs
 
 abbrev pub gathered : List Key → List Key → List Key
 gathered vs [] = vs
@@ -59,7 +51,7 @@ gathered vs (k ∷ ks) = gathered (movedIn vs k) ks
 
 -- those of ks behind vs, where each is written with its N, else none
 unfoldable pub keptFirst : List Key → List Key → List Key
-keptFirst vs ks = pickKeys (allNumbered ks) (gathered vs ks) []
+keptFirst vs ks = cond (allNumbered ks) (gathered vs ks) []
 
 -- kind by kind
 abbrev pub keptMet : List Event → Met

@@ -13,7 +13,7 @@ use Rattle.basics.specs.Tests.Cmp.{below, equal as alike, above}
 use Rattle.refusal.specs.declared.Refusal.the-variants.{Name, Arity, Range, Unbound, Variables}
 use Rattle.label.specs.Limits.{constantCount, firstParameter, parameterCount, firstVariable, variableCount, firstMinimum, minimumCount, termBase, predicateCount, equality, equalityArity}
 use Rattle.label.specs.Terms.{isConstant, isParameter, isVariable, isMinimum, isTerm}
-use Rattle.label.specs.Labels.{areArities, placeFits, inOrder, atomFrom, packed, unpacked, predicateOf, pickTest, labelOf, equates, testOf}
+use Rattle.label.specs.Labels.{areArities, placeFits, inOrder, atomFrom, packed, unpacked, predicateOf, labelOf, equates, testOf}
 use Rattle.label.specs.Renamings.{EachTerm, EachIn}
 use Rattle.label.specs.LabelLaws.{term-below, place-from, below-places, fits-atom, unpacked-packed, label-packed}
 use Rattle.label.specs.ArityLaws.{arity-two}
@@ -260,7 +260,7 @@ module _ (ar : List ℕ) (P : ℕ → Type 0) (w : (t : ℕ) → P t → isTerm 
   unfolding testOf equates
   equal-good e t u p q = go (cmp t u)
     where
-      go : Cmp t u → GoodTest ar P (pickTest (eqb t u) Always (pickTest (ltb t u) (labelOf (atomFrom equality (t ∷ u ∷ []))) (labelOf (atomFrom equality (u ∷ t ∷ [])))))
+      go : Cmp t u → GoodTest ar P (cond (eqb t u) Always (cond (ltb t u) (labelOf (atomFrom equality (t ∷ u ∷ []))) (labelOf (atomFrom equality (u ∷ t ∷ [])))))
       go (below h) =
           rw (ne-eqb t u (λ z. omega arith), lt-ltb t u h)
           (label-good equality (t ∷ u ∷ []) (sym (arity-two ar e)) (p, (q, tt)) (omega arith) (in-order t u h))

@@ -1,6 +1,7 @@
 -- The head of (becomes (p ?a ..) DIAGRAM): a declared predicate or 2, the count of its arguments or 3, 'arguments distinct' or 2 at the
 -- repeated word (document 01, section 'Text').
 use Prim.Native.Nat.{ℕ, zero, suc, _+_}
+use mathlib.Core.Bool.{cond}
 use mathlib.Core.List.{List, [], _∷_, _++_}
 use lib.Dec.{eqb}
 use lib.ListN.{length}
@@ -14,7 +15,7 @@ use Rattle.reading.specs.declared.Opening.{Opening}
 use Rattle.reading.specs.declared.Opening.the-variants as O
 use Rattle.reading.specs.declared.Argument.{Argument}
 use Rattle.reading.specs.declared.Argument.the-variants as A
-use Rattle.reading.specs.Reading.{Judged, pickJudged}
+use Rattle.reading.specs.Reading.{Judged}
 use Rattle.reading.specs.Reading.Judged.{fine, refused}
 
 -- an atom's name with its count of terms, or another word
@@ -43,7 +44,7 @@ argumentOf E.End = A.Other
 
 -- the predicate's number, the declared predicates ks numbered from 1, or 2
 unfoldable pub openedNumber : List Key → Opening → Judged ℕ
-openedNumber ks (O.Atom k n) = pickJudged (isAmong k ks) (fine (placeOf k ks + 1)) (refused Name)
+openedNumber ks (O.Atom k n) = cond (isAmong k ks) (fine (placeOf k ks + 1)) (refused Name)
 openedNumber ks O.Other = refused Form
 
 unfoldable pub headNumber : List Key → List Event → Judged ℕ
@@ -64,11 +65,11 @@ unfoldable pub argumentsFrom : ℕ → List Key → List Event → Judged Head
 argumentsFrom zero vs es = fine (record { variables = vs; rest = es })
 argumentsFrom (suc n) vs [] = refused Form
 argumentsFrom (suc n) vs (e ∷ es) =
-    pickArgument (argumentOf e) (λ k. pickJudged (isAmong k vs) (refused Name) (argumentsFrom n (vs ++ (k ∷ [])) es))
+    pickArgument (argumentOf e) (λ k. cond (isAmong k vs) (refused Name) (argumentsFrom n (vs ++ (k ∷ [])) es))
 
 -- the head of a predicate of the arity n: another count is 3
 abbrev pub openedArguments : ℕ → Opening → List Event → Judged Head
-openedArguments n (O.Atom k m) es = pickJudged (eqb m n) (argumentsFrom n [] es) (refused Arity)
+openedArguments n (O.Atom k m) es = cond (eqb m n) (argumentsFrom n [] es) (refused Arity)
 openedArguments n O.Other es = refused Form
 
 unfoldable pub headArguments : ℕ → List Event → Judged Head
@@ -78,7 +79,7 @@ headArguments n (e ∷ es) = openedArguments n (openingOf e) es
 -- the same on the line's tree: the keys of the arguments vs, behind the keys ks
 abbrev pub argumentKeys : List Key → List (List ℕ) → Judged (List Key)
 argumentKeys ks [] = fine ks
-argumentKeys ks (v ∷ vs) = pickJudged (isAmong (keyOf v) ks) (refused Name) (argumentKeys (ks ++ (keyOf v ∷ [])) vs)
+argumentKeys ks (v ∷ vs) = cond (isAmong (keyOf v) ks) (refused Name) (argumentKeys (ks ++ (keyOf v ∷ [])) vs)
 
 abbrev pub headKeys : ℕ → List (List ℕ) → Judged (List Key)
-headKeys n vs = pickJudged (eqb (length vs) n) (argumentKeys [] vs) (refused Arity)
+headKeys n vs = cond (eqb (length vs) n) (argumentKeys [] vs) (refused Arity)

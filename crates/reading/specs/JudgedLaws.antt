@@ -1,10 +1,10 @@
 -- Answers that are no refusal, taken apart.
 use Prim.Native.Nat.{ℕ}
 use mathlib.Core.Path.{_≡_, refl}
-use mathlib.Core.Bool.{Bool, true, false}
+use mathlib.Core.Bool.{Bool, true, false, cond}
 use native.Mathlib.Omega.{arith}
 use Rattle.refusal.specs.declared.Refusal.{Refusal}
-use Rattle.reading.specs.Reading.{Judged, pickJudged, andThen}
+use Rattle.reading.specs.Reading.{Judged, andThen}
 use Rattle.reading.specs.Reading.Judged.{fine, refused}
 
 pub apart : {A : Type 0} {r : Refusal} {g : A} → _≡_ {A = Judged A} (refused r) (fine g) → ⊥
@@ -14,11 +14,11 @@ pub fine-one : {A : Type 0} {x y : A} → fine x ≡ fine y → x ≡ y
 fine-one e = cc
 
 -- a tested answer passed its test
-pub chosen : {A : Type 0} (b : Bool) (j : Judged A) (r : Refusal) (y : A) → pickJudged b j (refused r) ≡ fine y → (b ≡ true) × (j ≡ fine y)
+pub chosen : {A : Type 0} (b : Bool) (j : Judged A) (r : Refusal) (y : A) → cond b j (refused r) ≡ fine y → (b ≡ true) × (j ≡ fine y)
 chosen true j r y e = (refl, e)
 chosen false j r y e = absurd (apart e)
 
-pub passed : {A : Type 0} (b : Bool) (x : A) (r : Refusal) (y : A) → pickJudged b (fine x) (refused r) ≡ fine y → (b ≡ true) × (x ≡ y)
+pub passed : {A : Type 0} (b : Bool) (x : A) (r : Refusal) (y : A) → cond b (fine x) (refused r) ≡ fine y → (b ≡ true) × (x ≡ y)
 passed true x r y e = (refl, fine-one e)
 passed false x r y e = absurd (apart e)
 

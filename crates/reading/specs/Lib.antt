@@ -3,15 +3,15 @@
 -- Definitions: what words stand for
 --   Op == an operation: form a leaf, ask a test, make the row step
 --   Names, Binding == the names that stand for something on the line; which variables: any, none, or only the arguments
---   Judged, andThen, pickJudged == an answer or the refusal; the first refusal decides; the first if true, else the second
+--   Judged, andThen == an answer or the refusal; the first refusal decides
 --   constantNumber, parameterNumber == a declared constant, or 2; a parameter of this action, or 6
---   met, pickKeys == the variables of one kind met so far, in the order of their first occurrence; one more than the limit is kept
+--   met == the variables of one kind met so far, in the order of their first occurrence; one more than the limit is kept
 --   Met, arguments == the variables met, kind by kind: ?name and %name; the arguments of a truth diagram, none for a weight
 --   lastVariable, numberIn, variableNumber == variables of a kind are numbered by first occurrence; an unknown one is 6 where none may be new
 --   minimumNumber == a minimum variable stands in a reward, or it is 6 (document 02, L12)
 --
 -- Definitions: the pass
---   Pass, more, pickPass == the atom under way, how many terms are due, the operations so far
+--   Pass, more == the atom under way, how many terms are due, the operations so far
 --   asked, beginning, begun, filling == an atom begins, its terms follow, and it is asked once none is due
 --   termWord, numberWord, atomWord == a term, or 1; a leaf, or 4; a declared predicate, or 2, with its arity, or 3
 --   variableMet, minimumMet, metAt, word == one variable more of a kind; the variables after a word; a word judged

@@ -1,7 +1,7 @@
 -- The words of an accepted line with a diagram: from its first word on, they come to what its tree stands for.
 use Prim.Native.Nat.{ℕ, suc, _+_}
 use mathlib.Core.Path.{_≡_, refl, sym, ap, _∙_}
-use mathlib.Core.Bool.{Bool, true, false}
+use mathlib.Core.Bool.{Bool, true, false, cond}
 use mathlib.Core.List.{List, [], _∷_, _++_, map}
 use native.Mathlib.Omega.{arith}
 use borrow.Author.Tests.{eqb-true}
@@ -11,21 +11,19 @@ use Rattle.refusal.specs.declared.Refusal.the-variants.{Name, Arity}
 use Rattle.words.specs.Keys.{keyOf}
 use Rattle.words.specs.declared.Key.{Key}
 use Rattle.forms.specs.Tree as T
-use Rattle.text.specs.declared.Kind.the-variants.{Reward, Variant, Becomes}
+use Rattle.text.specs.declared.Kind.the-variants.{Variant, Becomes}
 use Rattle.text.specs.Line.{Words, GoodWords, lineBytes}
 use Rattle.text.specs.Line.Line.{line}
-use Rattle.names.specs.Keys.{placeOf, isAmong}
+use Rattle.names.specs.Keys.{isAmong}
 use Rattle.events.specs.declared.Event.{Event}
 use Rattle.events.specs.declared.Event.the-variants as E
 use Rattle.events.specs.Events.{firstWord, nameEvent, variableEvent, diagramEvents}
 use Rattle.events.specs.Front.{isEnd, nextAt, eventsOf}
 use Rattle.events.specs.FrontLaws.{next-end, next-more}
 use Rattle.events.specs.LineEvents.{line-events}
-use Rattle.reading.specs.Reading.{Names, Judged, pickJudged, andThen, Met, reading}
+use Rattle.reading.specs.Reading.{Judged, andThen}
 use Rattle.reading.specs.Reading.Judged.{fine, refused}
-use Rattle.reading.specs.Head.{openedNumber, headNumber, Head, argumentsFrom, headArguments, argumentKeys, headKeys}
-use Rattle.reading.specs.Tree.{diagramReading}
-use Rattle.reading.specs.TreeLaws.{reading-diagram}
+use Rattle.reading.specs.Head.{Head, argumentsFrom, headArguments, argumentKeys, headKeys}
 use Rattle.reading.specs.JudgedLaws.{apart}
 
 -- the event at a place, where the events from there on are known
@@ -44,11 +42,6 @@ next-splits s i e es p = go (isEnd (nextAt s i .event)) refl
         let z : nextAt s i .event ∷ eventsOf (drop (nextAt s i .place) s) ≡ e ∷ es = sym (next-more s i q) ∙ p in
         record { event = cc; rest = cc }
 
--- (reward DIAGRAM)
-pub reward-words : (σ : Names) (d : T.Diagram) → T.GoodDiagram d → (vs : Met)
-    → reading σ (eventsOf (drop (firstWord Reward) (lineBytes (line Reward d)))) vs ≡ diagramReading σ d vs
-reward-words σ d g vs = ap (λ es. reading σ es vs) (line-events Reward d g) ∙ reading-diagram σ d vs
-
 -- (variant n WEIGHT): the name, and behind it the diagram
 pub variant-words : (w : Words Variant) → GoodWords Variant w
     → Splits (lineBytes (line Variant w)) (firstWord Variant) (nameEvent (w .0)) (diagramEvents (w .1))
@@ -66,8 +59,8 @@ keys-from [] ks es = refl
 keys-from (v ∷ vs) ks es = go (isAmong (keyOf v) ks) (keys-from vs (ks ++ (keyOf v ∷ [])) es)
   where
     go : (b : Bool) → argumentsFrom (length vs) (ks ++ (keyOf v ∷ [])) (map variableEvent vs ++ es) ≡ andThen (argumentKeys (ks ++ (keyOf v ∷ [])) vs) (headed es)
-        → pickJudged b (refused Name) (argumentsFrom (length vs) (ks ++ (keyOf v ∷ [])) (map variableEvent vs ++ es))
-        ≡ andThen (pickJudged b (refused Name) (argumentKeys (ks ++ (keyOf v ∷ [])) vs)) (headed es)
+        → cond b (refused Name) (argumentsFrom (length vs) (ks ++ (keyOf v ∷ [])) (map variableEvent vs ++ es))
+        ≡ andThen (cond b (refused Name) (argumentKeys (ks ++ (keyOf v ∷ [])) vs)) (headed es)
     go true ih = refl
     go false ih = ih
 
@@ -77,16 +70,10 @@ unfolding headArguments
 head-keys n k vs es = go (eqb (length vs) n) refl
   where
     go : (b : Bool) → eqb (length vs) n ≡ b
-        → pickJudged b (argumentsFrom n [] (map variableEvent vs ++ es)) (refused Arity) ≡ andThen (pickJudged b (argumentKeys [] vs) (refused Arity)) (headed es)
+        → cond b (argumentsFrom n [] (map variableEvent vs ++ es)) (refused Arity) ≡ andThen (cond b (argumentKeys [] vs) (refused Arity)) (headed es)
     go true e =
         ap (λ m. argumentsFrom m [] (map variableEvent vs ++ es)) (sym (eqb-true (length vs) n e)) ∙ keys-from vs [] es
     go false e = refl
-
-pub becomes-number : (ks : List Key) (w : Words Becomes) → GoodWords Becomes w
-    → headNumber ks (eventsOf (drop (firstWord Becomes) (lineBytes (line Becomes w))))
-    ≡ pickJudged (isAmong (keyOf (w .0)) ks) (fine (placeOf (keyOf (w .0)) ks + 1)) (refused Name)
-unfolding headNumber openedNumber
-becomes-number ks w g = rw (line-events Becomes w g)
 
 pub becomes-arguments : (n : ℕ) (w : Words Becomes) → GoodWords Becomes w
     → headArguments n (eventsOf (drop (firstWord Becomes) (lineBytes (line Becomes w)))) ≡ andThen (headKeys n (w .1)) (headed (diagramEvents (w .2)))
@@ -99,13 +86,6 @@ keys-count [] ks rs e = let z : ks ≡ rs = cc in omega (arith, ap length z)
 keys-count (v ∷ vs) ks rs e = go (isAmong (keyOf v) ks) (keys-count vs (ks ++ (keyOf v ∷ [])) rs) e
   where
     go : (b : Bool) → (argumentKeys (ks ++ (keyOf v ∷ [])) vs ≡ fine rs → length rs ≡ length (ks ++ (keyOf v ∷ [])) + length vs)
-        → pickJudged b (refused Name) (argumentKeys (ks ++ (keyOf v ∷ [])) vs) ≡ fine rs → length rs ≡ length ks + suc (length vs)
+        → cond b (refused Name) (argumentKeys (ks ++ (keyOf v ∷ [])) vs) ≡ fine rs → length rs ≡ length ks + suc (length vs)
     go true ih e = absurd (apart e)
     go false ih e = omega (arith, ih e, length-append ks (keyOf v ∷ []))
-
-pub head-count : (n : ℕ) (vs : List (List ℕ)) (rs : List Key) → headKeys n vs ≡ fine rs → length rs ≡ n
-head-count n vs rs = go (eqb (length vs) n) refl
-  where
-    go : (b : Bool) → eqb (length vs) n ≡ b → pickJudged b (argumentKeys [] vs) (refused Arity) ≡ fine rs → length rs ≡ n
-    go true q e = omega (arith, keys-count vs [] rs e, eqb-true (length vs) n q)
-    go false q e = absurd (apart e)

@@ -12,7 +12,7 @@ use Rattle.words.specs.declared.Key.{Key}
 use Rattle.words.specs.declared.Took.{Took}
 use Rattle.words.specs.declared.Took.the-variants.{Bytes, Refused}
 use Rattle.events.specs.declared.Event.{Event}
-use Rattle.reading.specs.Reading.{Names, Judged, Met, Written, pickKeys, reading}
+use Rattle.reading.specs.Reading.{Names, Judged, Met, Written, reading}
 use Rattle.reading.specs.Occurrences.{variableKeys, minimumKeys}
 
 -- the byte v
@@ -41,8 +41,8 @@ allNumbered (k ∷ ks) = isNumbered (nameOf k) && allNumbered ks
 unfoldable pub inserted : Key → List Key → List Key
 inserted k [] = k ∷ []
 inserted k (x ∷ xs) =
-    pickKeys (ltb (numberOf (nameOf k)) (numberOf (nameOf x))) (k ∷ x ∷ xs)
-    (pickKeys (eqb (numberOf (nameOf k)) (numberOf (nameOf x))) (x ∷ xs) (x ∷ inserted k xs))
+    cond (ltb (numberOf (nameOf k)) (numberOf (nameOf x))) (k ∷ x ∷ xs)
+    (cond (eqb (numberOf (nameOf k)) (numberOf (nameOf x))) (x ∷ xs) (x ∷ inserted k xs))
 
 -- those of ks sorted in, one after another
 abbrev pub byNumber : List Key → List Key → List Key
@@ -51,7 +51,7 @@ byNumber vs (k ∷ ks) = byNumber (inserted k vs) ks
 
 -- the variables of a kind that have their number before the words are read: all, by ascending N, where each is written in that way, else none
 unfoldable pub variablesFirst : List Key → List Key
-variablesFirst ks = pickKeys (allNumbered ks) (byNumber [] ks) []
+variablesFirst ks = cond (allNumbered ks) (byNumber [] ks) []
 
 -- kind by kind
 abbrev pub metFirst : List Event → Met

@@ -2,7 +2,7 @@
 -- same, and above it the words' first fault and 8 do not depend on how variables are numbered.
 use Prim.Native.Nat.{ℕ, suc, _+_, _-_, _≤_, _<_}
 use mathlib.Core.Path.{_≡_, refl, sym, ap, ap₂, subst, _∙_}
-use mathlib.Core.Bool.{Bool, true, false, _&&_}
+use mathlib.Core.Bool.{Bool, true, false, _&&_, cond}
 use mathlib.Core.List.{List, [], _∷_, _++_}
 use native.Mathlib.Omega.{arith}
 use native.Mathlib.Decide.{decLt}
@@ -23,7 +23,7 @@ use Rattle.events.specs.declared.Event.the-variants as E
 use Rattle.reading.specs.declared.Binding.{Binding}
 use Rattle.reading.specs.declared.Binding.the-variants.{Any, None, Only}
 use Rattle.reading.specs.Operations.Op.{ask}
-use Rattle.reading.specs.Reading.{Names, Judged, pickJudged, andThen, pickKeys, met, Met, metAt, Pass, more, pickPass, asked, beginning, begun, filling, termWord}
+use Rattle.reading.specs.Reading.{Names, Judged, andThen, met, Met, metAt, Pass, more, asked, beginning, begun, filling, termWord}
 use Rattle.reading.specs.Reading.{numberWord, atomWord, constantNumber, parameterNumber, variableNumber, minimumNumber, word, State, with-pass, readWords, isWithin, finished, begin, reading}
 use Rattle.reading.specs.Reading.Judged.{fine, refused}
 use Rattle.reading.specs.Occurrences.{variableKeys, minimumKeys}
@@ -46,7 +46,7 @@ inserted-rising n k [] h r = (h, tt)
 inserted-rising n k (x ∷ xs) h r = go (cmp (order k) (order x)) (λ l. inserted-rising (suc (order x)) k xs l (r .1))
   where
     go : Cmp (order k) (order x) → (suc (order x) ≤ order k → Rising (suc (order x)) (inserted k xs))
-        → Rising n (pickKeys (ltb (order k) (order x)) (k ∷ x ∷ xs) (pickKeys (eqb (order k) (order x)) (x ∷ xs) (x ∷ inserted k xs)))
+        → Rising n (cond (ltb (order k) (order x)) (k ∷ x ∷ xs) (cond (eqb (order k) (order x)) (x ∷ xs) (x ∷ inserted k xs)))
     go (below l) ih = rw (lt-ltb (order k) (order x) l) (h, (omega arith, r .1))
     go (equal e) ih = rw (le-ltb (order k) (order x) (omega arith), eq-eqb (order k) (order x) e) r
     go (above g) ih = rw (le-ltb (order k) (order x) (omega arith), ne-eqb (order k) (order x) (λ (e : order k ≡ order x). omega arith)) (r .0, ih (omega arith))
@@ -56,7 +56,7 @@ unfolding inserted
 inserted-grows k [] = omega arith
 inserted-grows k (x ∷ xs) = go (ltb (order k) (order x)) (eqb (order k) (order x)) (inserted-grows k xs)
   where
-    go : (a b : Bool) → length xs ≤ length (inserted k xs) → suc (length xs) ≤ length (pickKeys a (k ∷ x ∷ xs) (pickKeys b (x ∷ xs) (x ∷ inserted k xs)))
+    go : (a b : Bool) → length xs ≤ length (inserted k xs) → suc (length xs) ≤ length (cond a (k ∷ x ∷ xs) (cond b (x ∷ xs) (x ∷ inserted k xs)))
     go true b h = omega arith
     go false true h = omega arith
     go false false h = omega arith
@@ -71,7 +71,7 @@ moved-inserted : (n : ℕ) (k : Key) (xs : List Key) → Rising n xs → moved k
 unfolding moved inserted
 moved-inserted n k [] r = refl
 moved-inserted n k (x ∷ xs) r =
-    ap₂ (λ (us ws : List Key). pickKeys (ltb (order k) (order x)) (k ∷ us) (pickKeys (eqb (order k) (order x)) (x ∷ xs) (x ∷ ws)))
+    ap₂ (λ (us ws : List Key). cond (ltb (order k) (order x)) (k ∷ us) (cond (eqb (order k) (order x)) (x ∷ xs) (x ∷ ws)))
     (moved-front x xs (r .1)) (moved-inserted (suc (order x)) k xs (r .1))
 
 -- ===== Up to the limit the same, above it as many =====
@@ -97,7 +97,7 @@ kept-alike : (ks : List Key) → Alike (keptFirst [] ks) (variablesFirst ks)
 unfolding variablesFirst keptFirst
 kept-alike ks = go (allNumbered ks)
   where
-    go : (b : Bool) → Alike (pickKeys b (gathered [] ks) []) (pickKeys b (byNumber [] ks) [])
+    go : (b : Bool) → Alike (cond b (gathered [] ks) []) (cond b (byNumber [] ks) [])
     go true = alike-all ks [] [] (same refl tt)
     go false = same refl tt
 
@@ -118,7 +118,7 @@ both-same : {A : Type 0} (P : A → A → Type 0) (j : Judged A) → ((x : A) �
 both-same P (fine x) f = f x
 both-same P (refused r) f = refl
 
-both-test : {A : Type 0} (P : A → A → Type 0) (b : Bool) (i j : Judged A) (r : Refusal) → Both P i j → Both P (pickJudged b i (refused r)) (pickJudged b j (refused r))
+both-test : {A : Type 0} (P : A → A → Type 0) (b : Bool) (i j : Judged A) (r : Refusal) → Both P i j → Both P (cond b i (refused r)) (cond b j (refused r))
 both-test P true i j r m = m
 both-test P false i j r m = refl
 
@@ -126,7 +126,7 @@ asked-same : (p : Pass) → asked p .due ≡ p .due
 unfolding asked
 asked-same p = go (eqb (p .due) 0)
   where
-    go : (b : Bool) → pickPass b (more p (ask (testOf (atomFrom (p .predicate) (p .terms))))) p .due ≡ p .due
+    go : (b : Bool) → cond b (more p (ask (testOf (atomFrom (p .predicate) (p .terms))))) p .due ≡ p .due
     go true = refl
     go false = refl
 
@@ -138,10 +138,10 @@ begun-same p q r n = asked-same (beginning p r n) ∙ sym (asked-same (beginning
 term-both : (p q : Pass) (i j : Judged ℕ) → Due p q → Both (λ x y. Unit {0}) i j → Both Due (termWord p i) (termWord q j)
 unfolding termWord
 term-both p q (fine x) (fine y) d m =
-    subst (λ (n : ℕ). Both Due (pickJudged (eqb (p .due) 0) (refused F.Form) (fine (asked (filling p x)))) (pickJudged (eqb n 0) (refused F.Form) (fine (asked (filling q y))))) d
+    subst (λ (n : ℕ). Both Due (cond (eqb (p .due) 0) (refused F.Form) (fine (asked (filling p x)))) (cond (eqb n 0) (refused F.Form) (fine (asked (filling q y))))) d
     (go (eqb (p .due) 0))
   where
-    go : (b : Bool) → Both Due (pickJudged b (refused F.Form) (fine (asked (filling p x)))) (pickJudged b (refused F.Form) (fine (asked (filling q y))))
+    go : (b : Bool) → Both Due (cond b (refused F.Form) (fine (asked (filling p x)))) (cond b (refused F.Form) (fine (asked (filling q y))))
     go true = refl
     go false = asked-same (filling p x) ∙ ap (λ (n : ℕ). n - 1) d ∙ sym (asked-same (filling q y))
 term-both p q (fine x) (refused s) d m = absurd m
@@ -157,7 +157,7 @@ met-grows : (b : Binding) (vs : List Key) (k : Key) → length vs ≤ length (me
 unfolding met
 met-grows Any vs k = go (isAmong k vs) (leb (length vs) variableCount)
   where
-    go : (x y : Bool) → length vs ≤ length (pickKeys x vs (pickKeys y (vs ++ (k ∷ [])) vs))
+    go : (x y : Bool) → length vs ≤ length (cond x vs (cond y (vs ++ (k ∷ [])) vs))
     go true y = omega arith
     go false true = omega (arith, length-append vs (k ∷ []))
     go false false = omega arith

@@ -2,7 +2,7 @@
 -- refused, and up to it none is left out.
 use Prim.Native.Nat.{_+_, _≤_, _<_}
 use mathlib.Core.Path.{_≡_, refl, sym, ap, ap₂, _∙_}
-use mathlib.Core.Bool.{Bool, true, false, _&&_}
+use mathlib.Core.Bool.{Bool, true, false, _&&_, cond}
 use mathlib.Core.List.{List, [], _∷_, _++_}
 use native.Mathlib.Omega.{arith}
 use native.Mathlib.Decide.{decLt}
@@ -19,7 +19,7 @@ use Rattle.events.specs.declared.Event.the-variants as E
 use Rattle.reading.specs.declared.Binding.{Binding}
 use Rattle.reading.specs.declared.Binding.the-variants.{Any}
 use Rattle.reading.specs.Operations.{Op}
-use Rattle.reading.specs.Reading.{Names, Judged, pickJudged, andThen, pickKeys, met, Met, arguments, metAt, Pass, word}
+use Rattle.reading.specs.Reading.{Names, Judged, andThen, met, Met, arguments, metAt, Pass, word}
 use Rattle.reading.specs.Reading.{State, with-pass, readWord, readWords, finished, begin, Written, written, reading}
 use Rattle.reading.specs.Reading.Judged.{fine, refused}
 use Rattle.reading.specs.Occurrences.{occurringMet}
@@ -32,26 +32,26 @@ kept us = take (variableCount + 1) us
 abbrev keptMet : Met → Met
 keptMet m = record { variables = kept (m .variables); minimums = kept (m .minimums) }
 
-pick-same : (b : Bool) (x : List Key) → pickKeys b x x ≡ x
+pick-same : (b : Bool) (x : List Key) → cond b x x ≡ x
 pick-same true x = refl
 pick-same false x = refl
 
 -- one variable more, in the table and among all
-met-kept : (us : List Key) (k : Key) → met Any (kept us) k ≡ kept (pickKeys (isAmong k us) us (us ++ (k ∷ [])))
+met-kept : (us : List Key) (k : Key) → met Any (kept us) k ≡ kept (cond (isAmong k us) us (us ++ (k ∷ [])))
 unfolding met
 met-kept us k = go (decLt (length us) (variableCount + 1))
   where
-    by-test : (b : Bool) → length us < variableCount + 1 → pickKeys b us (us ++ (k ∷ [])) ≡ kept (pickKeys b us (us ++ (k ∷ [])))
+    by-test : (b : Bool) → length us < variableCount + 1 → cond b us (us ++ (k ∷ [])) ≡ kept (cond b us (us ++ (k ∷ [])))
     by-test true h = sym (take-all (variableCount + 1) us (omega arith))
     by-test false h = sym (take-all (variableCount + 1) (us ++ (k ∷ [])) (omega (arith, length-append us (k ∷ []))))
 
-    full : (b : Bool) → variableCount + 1 ≤ length us → kept us ≡ kept (pickKeys b us (us ++ (k ∷ [])))
+    full : (b : Bool) → variableCount + 1 ≤ length us → kept us ≡ kept (cond b us (us ++ (k ∷ [])))
     full true h = refl
     full false h = sym (take-append-le (variableCount + 1) us (k ∷ []) h)
 
     go : Dec (length us < variableCount + 1)
-        → pickKeys (isAmong k (kept us)) (kept us) (pickKeys (leb (length (kept us)) variableCount) (kept us ++ (k ∷ [])) (kept us))
-        ≡ kept (pickKeys (isAmong k us) us (us ++ (k ∷ [])))
+        → cond (isAmong k (kept us)) (kept us) (cond (leb (length (kept us)) variableCount) (kept us ++ (k ∷ [])) (kept us))
+        ≡ kept (cond (isAmong k us) us (us ++ (k ∷ [])))
     go (yes h) = rw (take-all (variableCount + 1) us (omega arith), le-leb (length us) variableCount (omega arith)) (by-test (isAmong k us) h)
     go (no h) =
         let l : variableCount + 1 ≤ length us = omega arith in
@@ -67,11 +67,11 @@ met-all [] m = refl
 met-all (E.Name k ∷ es) m = met-all es m
 met-all (E.Variable k ∷ es) m =
     ap (λ vs. metBy Any (record { variables = vs; minimums = kept (m .minimums) }) es) (met-kept (m .variables) k)
-    ∙ met-all es (record { variables = pickKeys (isAmong k (m .variables)) (m .variables) (m .variables ++ (k ∷ [])); minimums = m .minimums })
+    ∙ met-all es (record { variables = cond (isAmong k (m .variables)) (m .variables) (m .variables ++ (k ∷ [])); minimums = m .minimums })
 met-all (E.Parameter k ∷ es) m = met-all es m
 met-all (E.Minimum k ∷ es) m =
     ap (λ vs. metBy Any (record { variables = kept (m .variables); minimums = vs }) es) (met-kept (m .minimums) k)
-    ∙ met-all es (record { variables = m .variables; minimums = pickKeys (isAmong k (m .minimums)) (m .minimums) (m .minimums ++ (k ∷ [])) })
+    ∙ met-all es (record { variables = m .variables; minimums = cond (isAmong k (m .minimums)) (m .minimums) (m .minimums ++ (k ∷ [])) })
 met-all (E.Number v ∷ es) m = met-all es m
 met-all (E.Equal ∷ es) m = met-all es m
 met-all (E.Holds k n ∷ es) m = met-all es m
@@ -106,7 +106,7 @@ module _ (m : Met) (o : List Op) where
       rw (take-all (variableCount + 1) (m .variables) (omega arith), length-take-le (variableCount + 1) (m .minimums) l, lt-leb (length (m .minimums)) variableCount (omega arith))
       (refuses (leb (length (m .variables)) variableCount) _ _)
     where
-      refuses : (b : Bool) (x y : Written) → pickJudged (b && false) (fine x) (refused F.Variables) ≡ pickJudged (b && false) (fine y) (refused F.Variables)
+      refuses : (b : Bool) (x y : Written) → cond (b && false) (fine x) (refused F.Variables) ≡ cond (b && false) (fine y) (refused F.Variables)
       refuses true x y = refl
       refuses false x y = refl
 

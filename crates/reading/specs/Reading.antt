@@ -1,7 +1,7 @@
 -- A line's words with a diagram in it, one after another: what each word stands for, and the first fault (document 01, section 'Text',
 -- and under the refusals: 'word by word 2, 3, 6, 4, with 3 found at the predicate's own word; then its diagram 8').
 use Prim.Native.Nat.{ℕ, _+_, _-_, min}
-use mathlib.Core.Bool.{Bool, true, false, _&&_}
+use mathlib.Core.Bool.{Bool, _&&_, cond}
 use mathlib.Core.List.{List, [], _∷_, _++_}
 use lib.Dec.{eqb, leb}
 use lib.ListN.{length, getD}
@@ -34,10 +34,6 @@ pub data Judged (A : Type 0) : Type 0 where
   fine : A → Judged A
   refused : Refusal → Judged A
 
-abbrev pub pickJudged : {A : Type 0} → Bool → Judged A → Judged A → Judged A
-pickJudged true x y = x
-pickJudged false x y = y
-
 -- first x, then f of what it answers
 abbrev pub andThen : {A B : Type 0} → Judged A → (A → Judged B) → Judged B
 andThen (fine x) f = f x
@@ -47,20 +43,16 @@ andThen (refused r) f = refused r
 
 -- a name is a declared constant, or 2
 unfoldable pub constantNumber : List Key → Key → Judged ℕ
-constantNumber ks k = pickJudged (isAmong k ks) (fine (constantTerm (placeOf k ks))) (refused Name)
+constantNumber ks k = cond (isAmong k ks) (fine (constantTerm (placeOf k ks))) (refused Name)
 
 -- !name is a parameter 'of this action', or 6
 unfoldable pub parameterNumber : List Key → Key → Judged ℕ
-parameterNumber ks k = pickJudged (isAmong k ks) (fine (parameterTerm (placeOf k ks))) (refused Unbound)
-
-abbrev pub pickKeys : Bool → List Key → List Key → List Key
-pickKeys true x y = x
-pickKeys false x y = y
+parameterNumber ks k = cond (isAmong k ks) (fine (parameterTerm (placeOf k ks))) (refused Unbound)
 
 -- the variables of one kind met so far, in the order of their first occurrence, after ?name or %name. One more than the limit is kept: a line
 -- with more than that many is refused whatever the others are
 unfoldable pub met : Binding → List Key → Key → List Key
-met Any vs k = pickKeys (isAmong k vs) vs (pickKeys (leb (length vs) variableCount) (vs ++ (k ∷ [])) vs)
+met Any vs k = cond (isAmong k vs) vs (cond (leb (length vs) variableCount) (vs ++ (k ∷ [])) vs)
 met None vs k = vs
 met Only vs k = vs
 
@@ -86,7 +78,7 @@ numberIn first vs k = first + min (placeOf k vs) lastVariable
 unfoldable pub variableNumber : Binding → List Key → Key → Judged ℕ
 variableNumber Any vs k = fine (numberIn firstVariable vs k)
 variableNumber None vs k = refused Unbound
-variableNumber Only vs k = pickJudged (isAmong k vs) (fine (numberIn firstVariable vs k)) (refused Unbound)
+variableNumber Only vs k = cond (isAmong k vs) (fine (numberIn firstVariable vs k)) (refused Unbound)
 
 -- %name: 'Allow %name in rewards as a minimum variable' (document 02, L12); in a weight and in a truth diagram it is 6
 unfoldable pub minimumNumber : Binding → List Key → Key → Judged ℕ
@@ -107,13 +99,9 @@ pub record Pass : Type 0 where
 abbrev pub more : Pass → Op → Pass
 more p o = record { predicate = p .predicate; terms = p .terms; due = p .due; operations = p .operations ++ (o ∷ []) }
 
-abbrev pub pickPass : Bool → Pass → Pass → Pass
-pickPass true x y = x
-pickPass false x y = y
-
 -- an atom is asked once none of its terms is due
 unfoldable pub asked : Pass → Pass
-asked p = pickPass (eqb (p .due) 0) (more p (ask (testOf (atomFrom (p .predicate) (p .terms))))) p
+asked p = cond (eqb (p .due) 0) (more p (ask (testOf (atomFrom (p .predicate) (p .terms))))) p
 
 -- an atom of the predicate q begins, n terms due
 abbrev pub beginning : Pass → ℕ → ℕ → Pass
@@ -128,18 +116,18 @@ filling p t = record { predicate = p .predicate; terms = p .terms ++ (t ∷ []);
 
 -- where no term is due the line is not the grammar
 unfoldable pub termWord : Pass → Judged ℕ → Judged Pass
-termWord p (fine t) = pickJudged (eqb (p .due) 0) (refused Form) (fine (asked (filling p t)))
+termWord p (fine t) = cond (eqb (p .due) 0) (refused Form) (fine (asked (filling p t)))
 termWord p (refused r) = refused r
 
 -- a leaf: 'number outside its range' is 4
 unfoldable pub numberWord : Pass → ℕ → Judged Pass
-numberWord p v = pickJudged (leb v highestValue) (fine (more p (leafOp v))) (refused Range)
+numberWord p v = cond (leb v highestValue) (fine (more p (leafOp v))) (refused Range)
 
 -- the name of an atom with n terms behind it: a declared predicate, or 2; n its arity, or 3
 unfoldable pub atomWord : Names → Pass → Key → ℕ → Judged Pass
 atomWord σ p k n =
-    pickJudged (isAmong k (σ .predicates))
-    (pickJudged (eqb n (getD (σ .arities) (placeOf k (σ .predicates) + 1) 0)) (fine (begun p (placeOf k (σ .predicates) + 1) n)) (refused Arity))
+    cond (isAmong k (σ .predicates))
+    (cond (eqb n (getD (σ .arities) (placeOf k (σ .predicates) + 1) 0)) (fine (begun p (placeOf k (σ .predicates) + 1) n)) (refused Arity))
     (refused Name)
 
 -- words
@@ -205,7 +193,7 @@ isWithin m = leb (length (m .variables)) variableCount && leb (length (m .minimu
 
 -- after all words, more variables of a kind than the limit are 8
 abbrev pub written : Met → List Op → Judged Written
-written m o = pickJudged (isWithin m) (fine (record { met = m; operations = o })) (refused Variables)
+written m o = cond (isWithin m) (fine (record { met = m; operations = o })) (refused Variables)
 
 abbrev pub finished : State → Judged Written
 finished s = written (s .met) (s .pass .operations)

@@ -1,7 +1,7 @@
 -- What a diagram of a line stands for: its tree with every name resolved, in the order of the words (document 01, section 'Text').
 use Prim.Native.Nat.{ℕ, suc, _+_, _≤_, _<_, max}
 use mathlib.Core.Path.{_≡_}
-use mathlib.Core.Bool.{true}
+use mathlib.Core.Bool.{true, cond}
 use mathlib.Core.List.{List, [], _∷_, _++_}
 use lib.Dec.{eqb, leb}
 use lib.ListN.{length, getD}
@@ -25,7 +25,7 @@ use Rattle.reading.specs.declared.Binding.{Binding}
 use Rattle.reading.specs.declared.Binding.the-variants.{Any, None, Only}
 use Rattle.reading.specs.Operations.{Op}
 use Rattle.reading.specs.Operations.Op.{leafOp, ask, step}
-use Rattle.reading.specs.Reading.{Names, Judged, pickJudged, andThen, constantNumber, parameterNumber, met, Met, variableNumber}
+use Rattle.reading.specs.Reading.{Names, Judged, andThen, constantNumber, parameterNumber, met, Met, variableNumber}
 use Rattle.reading.specs.Reading.{minimumNumber, variableMet, minimumMet, Written, isWithin, written}
 use Rattle.reading.specs.Reading.Judged.{fine, refused}
 
@@ -65,8 +65,8 @@ testing p g = fine (record { value = testOf (atomFrom p (g .value)); met = g .me
 abbrev pub resolveAtom : Names → Met → T.Atom → Judged (Result Test)
 resolveAtom σ m (equal a b) = andThen (resolveTerms σ m (a ∷ b ∷ [])) (testing equality)
 resolveAtom σ m (holds p ts) =
-    pickJudged (isAmong (keyOf p) (σ .predicates))
-    (pickJudged (eqb (length ts) (getD (σ .arities) (placeOf (keyOf p) (σ .predicates) + 1) 0))
+    cond (isAmong (keyOf p) (σ .predicates))
+    (cond (eqb (length ts) (getD (σ .arities) (placeOf (keyOf p) (σ .predicates) + 1) 0))
     (andThen (resolveTerms σ m ts) (testing (placeOf (keyOf p) (σ .predicates) + 1)))
     (refused Arity))
     (refused Name)
@@ -77,7 +77,7 @@ branching t h g = fine (record { value = branch t h (g .value); met = g .met })
 -- the atom, the diagram for true, the diagram for false
 abbrev pub resolveDiagram : Names → Met → T.Diagram → Judged (Result Reading)
 resolveDiagram σ m (numeral n) =
-    pickJudged (leb (valueOf n) highestValue) (fine (record { value = number (valueOf n); met = m })) (refused Range)
+    cond (leb (valueOf n) highestValue) (fine (record { value = number (valueOf n); met = m })) (refused Range)
 resolveDiagram σ m (conditional a d e) =
     andThen (resolveAtom σ m a) (λ t.
     andThen (resolveDiagram σ (t .met) d) (λ h.

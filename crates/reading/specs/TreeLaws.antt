@@ -1,7 +1,7 @@
 -- The words of a diagram, read one after another, come to what its tree stands for.
 use Prim.Native.Nat.{ℕ, suc, _+_}
 use mathlib.Core.Path.{_≡_, refl, sym, ap, subst, _∙_}
-use mathlib.Core.Bool.{Bool, true, false}
+use mathlib.Core.Bool.{Bool, true, false, cond}
 use mathlib.Core.List.{List, [], _∷_, _++_, append-assoc, append-nil, map}
 use native.Mathlib.Omega.{arith}
 use borrow.Author.Tests.{eq-eqb, ne-eqb}
@@ -25,7 +25,7 @@ use Rattle.events.specs.declared.Event.the-variants as E
 use Rattle.events.specs.Events.{termEvent, atomEvents, diagramEvents}
 use Rattle.reading.specs.Operations.{Op}
 use Rattle.reading.specs.Operations.Op.{leafOp, ask, step}
-use Rattle.reading.specs.Reading.{Names, Judged, pickJudged, andThen, Met, Pass, more, asked, beginning, begun, filling, termWord, numberWord}
+use Rattle.reading.specs.Reading.{Names, Judged, andThen, Met, Pass, more, asked, beginning, begun, filling, termWord, numberWord}
 use Rattle.reading.specs.Reading.{atomWord, word, State, with-pass, readWord, readWords, written, finished, begin, reading}
 use Rattle.reading.specs.Reading.Judged.{fine, refused}
 use Rattle.reading.specs.JudgedLaws.{apart}
@@ -160,8 +160,8 @@ terms-follow σ q ts es vs p =
 
 -- an atom by its name's checks
 atom-checked : (σ : Names) (q : ℕ) (ts : List T.Term) (es : List Event) (vs : Met) (p : Pass) (b c : Bool)
-    → Follows σ (andThen (with-pass vs (pickJudged b (pickJudged c (fine (begun p q (length ts))) (refused Arity)) (refused Name))) (readWords σ (map termEvent ts ++ es)))
-    es (p .operations) question (pickJudged b (pickJudged c (andThen (resolveTerms σ vs ts) (testing q)) (refused Arity)) (refused Name))
+    → Follows σ (andThen (with-pass vs (cond b (cond c (fine (begun p q (length ts))) (refused Arity)) (refused Name))) (readWords σ (map termEvent ts ++ es)))
+    es (p .operations) question (cond b (cond c (andThen (resolveTerms σ vs ts) (testing q)) (refused Arity)) (refused Name))
 atom-checked σ q ts es vs p true true = terms-follow σ q ts es vs p
 atom-checked σ q ts es vs p true false = refl
 atom-checked σ q ts es vs p false c = refl
@@ -177,8 +177,8 @@ atom-follows σ (holds q ts) es vs p =
 -- diagrams
 
 number-follows : (σ : Names) (v : ℕ) (es : List Event) (vs : Met) (p : Pass) (b : Bool)
-    → Follows σ (andThen (with-pass vs (pickJudged b (fine (more p (leafOp v))) (refused Range))) (readWords σ es)) es (p .operations) opsOf
-    (pickJudged b (fine (record { value = number v; met = vs })) (refused Range))
+    → Follows σ (andThen (with-pass vs (cond b (fine (more p (leafOp v))) (refused Range))) (readWords σ es)) es (p .operations) opsOf
+    (cond b (fine (record { value = number v; met = vs })) (refused Range))
 number-follows σ v es vs p true = (more p (leafOp v), refl, refl)
 number-follows σ v es vs p false = refl
 

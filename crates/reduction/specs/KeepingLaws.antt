@@ -2,21 +2,21 @@
 use mathlib.Core.Path.{_≡_, refl, sym, ap, ap₂, _∙_, subst}
 use mathlib.Core.Logic.{_⊎_, inl, inr}
 use mathlib.Core.Bool.{Bool, true, false, cond, Bool·beq}
-use mathlib.Core.List.{List, [], _∷_, map, List·Memᴰ, List·Memᴰ·head, List·Memᴰ·tail, List·Memᴰ·append-cases}
+use mathlib.Core.List.{List, _∷_, map, List·Memᴰ, List·Memᴰ·head, List·Memᴰ·tail, List·Memᴰ·append-cases}
 use Prim.Native.Nat.{ℕ, suc, _≤_}
 use native.Mathlib.Omega.{arith}
 use lib.ListN.{length}
 use Rattle.basics.specs.Tests.{or-one, or-other}
-use Rattle.diagram.specs.Diagram.{Diagram, leaf, branch, same, eval, From}
+use Rattle.diagram.specs.Diagram.{Diagram, leaf, branch, same, eval, From, EveryLabel}
 use Rattle.diagram.specs.DiagramLaws.{same-refl}
 use Rattle.diagram.specs.Rows.{rows}
 use Rattle.diagram.specs.Listing.{Fine, Good}
-use Rattle.apply.specs.GoodLaws.{EveryLabel, every-node}
+use Rattle.apply.specs.GoodLaws.{every-node}
 use Rattle.paths.specs.Paths.{Step, Path, stepBefore, paths, literals, literalOf, isEdge, someStep, through, mostPaths}
 use Rattle.paths.specs.PathLaws.{mem-unmap, paths-leaf, paths-branch, paths-some}
 use Rattle.paths.specs.Routes.{stepOn, pathAt}
 use Rattle.cutting.specs.Cut.{reduced, cutAt}
-use Rattle.cutting.specs.TruthLaws.{Follows}
+use Rattle.cutting.specs.Truth.{Follows}
 use Rattle.cutting.specs.ReduceLaws.{reduced-from, reduced-reduced, reduced-fine, cut-few}
 use Rattle.reduction.specs.Reduction.{isOn, keeping}
 use Rattle.reduction.specs.ListLaws.{someOf-in}

@@ -10,13 +10,12 @@ use Rattle.label.specs.Limits.{firstVariable, firstMinimum}
 use Rattle.label.specs.Labels.{predicateOf, unpacked, termsOf}
 use Rattle.label.specs.Renamings.{rank}
 use Rattle.label.specs.RenamingLaws.{rank-below}
-use Rattle.diagram.specs.Diagram.{Diagram, leaf, branch, eval}
+use Rattle.diagram.specs.Diagram.{Diagram, leaf, branch, eval, EveryLabel}
 use Rattle.diagram.specs.Words.{upTo}
 use Rattle.diagram.specs.WordLaws.{length-upTo, getD-upTo}
 use Rattle.diagram.specs.Variables.{occurs, variables}
 use Rattle.rename.specs.AscendingLaws.{place-rank}
 use Rattle.rename.specs.VariableLaws.{occurs-variable, variables-ascending}
-use Rattle.apply.specs.GoodLaws.{EveryLabel}
 use Rattle.state.specs.Max.{Tuple, none, more}
 use Rattle.state.specs.State.{atomOf, meaning, State, truth, holds, value, low, Fits}
 use Rattle.state.specs.Terms.{Each, args}
@@ -30,7 +29,8 @@ use Rattle.paths.specs.Paths.{Literal, Step, Path, stepBefore, paths, literals,
 use Rattle.paths.specs.PathLaws.{mem-map, mem-unmap, path-in, path-number}
 use Rattle.paths.specs.Routes.{stepOn, pathAt}
 use Rattle.cutting.specs.Cut.{reduced}
-use Rattle.cutting.specs.TruthLaws.{says, value-says, Follows, walk, tells, eval-reduced}
+use Rattle.cutting.specs.Truth.{says, Follows}
+use Rattle.cutting.specs.TruthLaws.{value-says, walk, tells, eval-reduced}
 use Rattle.reduction.specs.Combinations.{valuations, objectOf, Ground, groundOf, grounds, facts, isConsistent, combinations, winner, winners}
 use Rattle.reduction.specs.Reduction.{isOn, keeping}
 use Rattle.reduction.specs.ListLaws.{in-upTo, reverse-in, place-of}

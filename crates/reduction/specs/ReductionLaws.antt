@@ -1,6 +1,6 @@
 -- Reduction leaves the value in every state, and leaves a closed-up diagram that has a listing.
 use mathlib.Core.Path.{_≡_, refl, subst}
-use mathlib.Core.Bool.{Bool, true, false, not, cond, _&&_, _||_}
+use mathlib.Core.Bool.{Bool, true, false, not, cond, _&&_}
 use mathlib.Core.List.{List, [], _∷_}
 use Prim.Native.Nat.{ℕ, _≤_, _<_}
 use native.Mathlib.Omega.{arith}
@@ -10,17 +10,15 @@ use borrow.Author.Tests.{ltb-false, not-true, not-false}
 use Rattle.refusal.specs.declared.Refusal.{Refusal}
 use Rattle.refusal.specs.declared.Refusal.the-variants.{Paths, Kinds, Runs, Combinations}
 use Rattle.refusal.specs.Outcome.{ok, refused, Accepted}
-use Rattle.basics.specs.Tests.{and-left, and-right}
-use Rattle.basics.specs.Members.{clash}
+use Rattle.basics.specs.Tests.{and-left, and-right, neither}
 use Rattle.label.specs.Limits.{equality, constantCount, firstVariable, firstMinimum}
 use Rattle.label.specs.Terms.{isConstant}
 use Rattle.label.specs.Labels.{predicateOf, unpacked, termsOf}
-use Rattle.diagram.specs.Diagram.{Diagram, leaf, branch}
+use Rattle.diagram.specs.Diagram.{Diagram, leaf, branch, EveryLabel}
 use Rattle.diagram.specs.Rows.{rows}
 use Rattle.diagram.specs.Listing.{Good as Listed}
 use Rattle.diagram.specs.Variables.{isPlain, closed}
 use Rattle.rename.specs.ClosingLaws.{closed-good, closed-twice, closed-rows}
-use Rattle.apply.specs.GoodLaws.{EveryLabel}
 use Rattle.state.specs.Max.{none}
 use Rattle.state.specs.State.{atomOf, meaning, State, Good}
 use Rattle.state.specs.Terms.{Each, args, Terms}
@@ -41,10 +39,6 @@ use Rattle.reduction.specs.ModelLaws.{Varied, keeping-number}
 use Rattle.reduction.specs.ClosedLaws.{within-closed, closed-number}
 
 -- ===== What is not refused =====
-
-neither : (a b : Bool) → (a || b) ≡ false → (a ≡ false) × (b ≡ false)
-neither true b e = clash refl e
-neither false b e = (refl, e)
 
 -- without constants and parameters every term is a variable
 each-varied : (ts : List ℕ) → someOf isConstant ts ≡ false → Each (Allowed 0) ts → Each (λ t. firstVariable ≤ t) ts

@@ -1,7 +1,6 @@
 -- Steps that may be refused, and that share the working space of one call (document 01, section 'Combination').
 use mathlib.Core.Bool.{cond}
 use mathlib.Core.List.{List}
-use Prim.Native.Nat.{ℕ}
 use lib.ListN.{length}
 use lib.Dec.{ltb}
 use Rattle.refusal.specs.Outcome.{Outcome, ok, refused, andThen}

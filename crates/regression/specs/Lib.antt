@@ -21,12 +21,12 @@
 --
 -- Definitions: the next state
 --   inner, factAfter, next, meanings == p(o ..) is true next exactly if its truth diagram gives 1 for o .. today; without one it stays
+--   Tells == what an accepted regression gives: a good diagram whose leaves are the old one's in the next state, with no new variable or parameter
 --
 -- Definitions: what diagrams must be
 --   AtMost, Labels == no leaf is above b; every label is one under the arity list
 --   GoodTruth, GoodTruths == a truth diagram has leaves 0 and 1 and labels in their range; each does
 --   Allowed, Within, WithinTruths == no parameter from the c-th on; in no truth diagram
---   Tells == what an accepted regression gives: a good diagram whose leaves are the old one's in the next state, with no new variable or parameter
 --
 -- Definitions: the calls
 --   truthCount, truthWords, truthsOf == lent truth diagrams: words one after another, and where each begins
@@ -52,10 +52,10 @@
 pub mod Calls
 pub mod Step
 pub mod Regression
-pub mod Next
 pub mod RegressCall
 pub mod Result
 pub mod Parameters
+pub mod Next
 -- laws
 pub mod CallLaws
 pub mod StepLaws

@@ -1,14 +1,18 @@
--- The next state (document 01, section 'Regression'): p(o..) is true exactly if its truth diagram gives 1 for o.. in the old one; all else stays.
-use mathlib.Core.Bool.{Bool}
+-- The next state (document 01, section 'Regression'): p(o..) is true exactly if its truth diagram gives 1 for o.. in the old one; all else stays. What a regression says of it.
+use mathlib.Core.Path.{_≡_}
+use mathlib.Core.Bool.{Bool, true}
 use mathlib.Core.List.{List}
 use mathlib.Core.Option.{Option, some, none, Option·map}
-use Prim.Native.Nat.{ℕ, _-_}
+use Prim.Native.Nat.{ℕ, _-_, _≤_}
 use lib.ListN.{getD}
 use lib.Dec.{eqb}
 use Rattle.label.specs.Limits.{firstVariable}
-use Rattle.diagram.specs.Diagram.{Tree}
-use Rattle.state.specs.State.{Atomic, meaning, State, value, low, fixed}
+use Rattle.diagram.specs.Diagram.{Tree, Diagram}
+use Rattle.diagram.specs.Listing.{Good as Listed}
+use Rattle.diagram.specs.Variables.{occurs}
+use Rattle.state.specs.State.{Atomic, meaning, State, value, low, fixed, Fits}
 use Rattle.regression.specs.Regression.{Truths}
+use Rattle.regression.specs.Parameters.{Within, WithinTruths}
 
 -- the objects of the terms of a truth diagram that is read for the objects os′, with os for the parameters
 unfoldable pub inner : State → List ℕ → List ℕ → ℕ → ℕ
@@ -26,3 +30,10 @@ next s os becomes = record { size = s .size; constant = s .constant; fact = λ p
 -- truth diagrams over what their labels say
 abbrev pub meanings : List ℕ → Truths → ℕ → Option (Tree Atomic)
 meanings ar truths p = Option·map (meaning ar) (truths p)
+
+-- what an accepted regression of a good diagram is
+pub record Tells (ar : List ℕ) (truths : Truths) (d r : Diagram) : Type 0 where
+  pub good : Listed ar r
+  pub values : (s : State) (os : List ℕ) (θ : ℕ → ℕ) → Fits s os θ → value s (meaning ar r) θ ≡ value (next s os (meanings ar truths)) (meaning ar d) θ
+  pub within : (c : ℕ) → WithinTruths c ar truths → Within c (meaning ar d) → Within c (meaning ar r)
+  pub variables : (t : ℕ) → firstVariable ≤ t → occurs ar t r ≡ true → occurs ar t d ≡ true

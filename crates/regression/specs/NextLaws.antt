@@ -32,7 +32,7 @@ use Rattle.regression.specs.Result.{replaced, truthGiven, truthDiagram, 
 use Rattle.regression.specs.Parameters.{Allowed, Within, Labels, GoodTruth, GoodTruths, WithinTruths}
 use Rattle.regression.specs.ResultLaws.{value-meaning, eval-rebuilt, value-replaced, label-terms, argument-low, argument-high}
 use Rattle.regression.specs.ResultLaws.{argument-terms, bit, terms-regressed, good-regressed, label-predicate}
-use Rattle.regression.specs.Next.{inner, factAfter, next, meanings}
+use Rattle.regression.specs.Next.{inner, factAfter, next, meanings, Tells}
 
 -- the objects of the terms that replace the arguments
 pub fits-zero : {s : State} {os : List ℕ} {θ : ℕ → ℕ} → Fits s os θ → θ 0 ≡ s .constant 0
@@ -110,13 +110,6 @@ variables-regressed ar good truths g d w t h o =
     (terms-regressed ar truths good g (λ x. firstVariable ≤ x → occurs ar x d ≡ true) (λ z. absurd (omega arith))
     (λ p u i j e. terms-all (λ x. x < firstVariable → firstVariable ≤ x → occurs ar x d ≡ true) (λ x k z. absurd (omega arith)) (meaning ar u))
     d w (Terms-mono _ (λ x. firstVariable ≤ x → occurs ar x d ≡ true) (λ x k z. k) (meaning ar d) (occur-terms ar d))) o h
-
--- what an accepted regression of a good diagram is
-pub record Tells (ar : List ℕ) (truths : Truths) (d r : Diagram) : Type 0 where
-  pub good : Listed ar r
-  pub values : (s : State) (os : List ℕ) (θ : ℕ → ℕ) → Fits s os θ → value s (meaning ar r) θ ≡ value (next s os (meanings ar truths)) (meaning ar d) θ
-  pub within : (c : ℕ) → WithinTruths c ar truths → Within c (meaning ar d) → Within c (meaning ar r)
-  pub variables : (t : ℕ) → firstVariable ≤ t → occurs ar t r ≡ true → occurs ar t d ≡ true
 
 pub regressed-tells : (ar : List ℕ) (truths : Truths) (d : Diagram) → GoodTruths ar truths → Listed ar d → Accepted (Tells ar truths d) (regressed ar truths d)
 regressed-tells ar truths d g h = accepted-mono (regressed-is ar truths d) (λ r i. subst (Tells ar truths d) (sym (i .is)) (record {

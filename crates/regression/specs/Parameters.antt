@@ -7,8 +7,7 @@ use mathlib.Core.Option.{some}
 use Prim.Native.Nat.{ℕ, _+_, _≤_, _<_}
 use Rattle.label.specs.Limits.{firstParameter, firstVariable, predicateCount}
 use Rattle.label.specs.Labels.{isLabel}
-use Rattle.diagram.specs.Diagram.{Tree, Diagram}
-use Rattle.apply.specs.GoodLaws.{EveryLabel}
+use Rattle.diagram.specs.Diagram.{Tree, Diagram, EveryLabel}
 use Rattle.state.specs.State.{Atomic, meaning}
 use Rattle.state.specs.Terms.{Terms}
 use Rattle.regression.specs.Regression.{Truths}

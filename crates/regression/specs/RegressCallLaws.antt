@@ -12,22 +12,23 @@ use Rattle.refusal.specs.declared.Refusal.{Refusal}
 use Rattle.refusal.specs.declared.Refusal.the-variants.{Listing, Buffer, Truth, Unbound}
 use Rattle.refusal.specs.Outcome.{Outcome, refused, Accepted}
 use Rattle.refusal.specs.OutcomeLaws.{accepted-cond}
-use Rattle.basics.specs.Tests.{and-left, and-right, Flag, isTrue, isFalse, flag, Either, one, other, either, Cmp, below, equal, above, cmp}
+use Rattle.basics.specs.Tests.{and-left, and-right, Flag, isTrue, isFalse, flag, Either, one, other, either, Cmp, below, equal, above, cmp, neither}
 use Rattle.basics.specs.Members.{clash}
 use Rattle.label.specs.Limits.{predicateCount}
 use Rattle.label.specs.Labels.{isLabel}
 use Rattle.diagram.specs.Sizes.{resultWords, spaceWords}
-use Rattle.diagram.specs.Diagram.{Diagram, leaf, branch}
+use Rattle.diagram.specs.Diagram.{Diagram, leaf, branch, EveryLabel}
 use Rattle.diagram.specs.Words.{isListing}
 use Rattle.diagram.specs.Listing.{diagramOf}
 use Rattle.diagram.specs.Listings.{is-listing-good}
 use Rattle.diagram.specs.Variables.{occurs}
-use Rattle.apply.specs.GoodLaws.{EveryLabel, fine-every}
+use Rattle.apply.specs.GoodLaws.{fine-every}
 use Rattle.regression.specs.declared.Regressed.the-variants.{Refused}
 use Rattle.regression.specs.Regression.{Truths, regressed}
 use Rattle.regression.specs.Result.{AtMost}
 use Rattle.regression.specs.Parameters.{GoodTruth, GoodTruths}
-use Rattle.regression.specs.NextLaws.{Tells, regressed-tells}
+use Rattle.regression.specs.Next.{Tells}
+use Rattle.regression.specs.NextLaws.{regressed-tells}
 use Rattle.regression.specs.RegressCall.{truthCount, truthWords, truthsOf, areListings, leafAbove, anyOccurs}
 use Rattle.regression.specs.RegressCall.{unboundVariable, checkTruth, checkTruths, regressOutcome, regressAnswer, regressResult}
 
@@ -97,19 +98,15 @@ listings-at ar truths spans p (suc n) h q i j e = go (cmp p q) (listings-at ar t
         here (either (eqb (truthCount spans q) 0) _ (subst (λ (r : ℕ). (eqb (truthCount spans r) 0 || isListing ar (truthWords truths spans r)) ≡ true) k (and-left first _ both)))
     go (above k) ih = absurd (omega arith)
 
-or-false : (a b : Bool) → (a || b) ≡ false → (a ≡ false) × (b ≡ false)
-or-false true b e = clash refl e
-or-false false b e = (refl, e)
-
 pub above-most : (m : ℕ) (d : Diagram) → leafAbove m d ≡ false → AtMost m d
 above-most m (leaf v) h = ltb-false m v (rw (above-leaf m v) at h)
 above-most m (branch l t f) h =
-    let x = or-false (leafAbove m t) (leafAbove m f) (rw (above-branch m l t f) at h) in
+    let x = neither (leafAbove m t) (leafAbove m f) (rw (above-branch m l t f) at h) in
     (above-most m t (x .0), above-most m f (x .1))
 
 pub any-quiet : (ar : List ℕ) (d : Diagram) (t n : ℕ) → anyOccurs ar d t n ≡ false → (u : ℕ) → t ≤ u → u < t + n → occurs ar u d ≡ false
 any-quiet ar d t zero h u i j = absurd (omega arith)
-any-quiet ar d t (suc n) h u i j = go (cmp t u) (or-false (occurs ar t d) (anyOccurs ar d (suc t) n) (rw (any-cons ar d t n) at h)) (any-quiet ar d (suc t) n)
+any-quiet ar d t (suc n) h u i j = go (cmp t u) (neither (occurs ar t d) (anyOccurs ar d (suc t) n) (rw (any-cons ar d t n) at h)) (any-quiet ar d (suc t) n)
   where
     go : Cmp t u → (occurs ar t d ≡ false) × (anyOccurs ar d (suc t) n ≡ false)
         → (anyOccurs ar d (suc t) n ≡ false → (v : ℕ) → suc t ≤ v → v < suc t + n → occurs ar v d ≡ false) → occurs ar u d ≡ false

@@ -18,10 +18,10 @@ use Rattle.label.specs.declared.Label.{Label}
 use Rattle.label.specs.declared.Test.{Test}
 use Rattle.label.specs.declared.Test.the-variants.{Always, Is}
 use Rattle.diagram.specs.Sizes.{mostRows, highestValue}
-use Rattle.diagram.specs.Diagram.{Diagram, leaf, branch, eval, relabel, Ordered, Reduced}
+use Rattle.diagram.specs.Diagram.{Diagram, leaf, branch, eval, relabel, Ordered, Reduced, EveryLabel}
 use Rattle.diagram.specs.Rows.{rows}
 use Rattle.diagram.specs.Listing.{Fine, Good}
-use Rattle.apply.specs.GoodLaws.{EveryLabel, fine-every}
+use Rattle.apply.specs.GoodLaws.{fine-every}
 use Rattle.state.specs.State.{Atomic, atomOf, meaning, State, holds, value}
 use Rattle.state.specs.Terms.{Each, args, Terms}
 use Rattle.state.specs.ValueLaws.{by-low}

@@ -5,12 +5,12 @@ use Prim.Native.Nat.{ℕ, suc, _+_, _*_, _-_, _≤_}
 use native.Mathlib.Omega.{arith}
 use Rattle.label.specs.declared.Test.{Test}
 use Rattle.label.specs.declared.Test.the-variants.{Always, Is}
-use Rattle.diagram.specs.Diagram.{Diagram, leaf, branch, eval, From, Ordered, Reduced}
+use Rattle.diagram.specs.Diagram.{Diagram, leaf, branch, eval, From, Ordered, Reduced, EveryLabel}
 use Rattle.diagram.specs.Canonicity.{choosing, eval-true, eval-false}
 use Rattle.apply.specs.declared.Operation.the-variants.{Sum, Product}
 use Rattle.apply.specs.Apply.{apply}
 use Rattle.apply.specs.ApplyLaws.{eval-apply, from-apply, reduced-apply}
-use Rattle.apply.specs.GoodLaws.{EveryLabel, every-apply}
+use Rattle.apply.specs.GoodLaws.{every-apply}
 use Rattle.regression.specs.CallLaws.{Gives, gives-bind, gives-mono, form-gives, combine-gives, Steady, steady-bind, steady-form, steady-combine}
 use Rattle.regression.specs.Step.{labelTest, testDiagram, exchanged, rowStep}
 use Rattle.regression.specs.Result.{stepped, AtMost, asked}

@@ -1,6 +1,5 @@
 -- Laws of closing up and of moving apart (document 01, section 'Combination'; kind by kind, document 02, L12).
 use mathlib.Core.Path.{_≡_}
-use mathlib.Core.Logic.{_⊎_, inl, inr}
 use mathlib.Core.Bool.{true, false}
 use mathlib.Core.List.{List}
 use Prim.Native.Nat.{ℕ, _+_, _-_, _≤_, _<_}
@@ -10,12 +9,13 @@ use lib.Dec.{eqb}
 use Rattle.basics.specs.Tests.{Flag, isTrue, isFalse, flag, Cmp, below, equal, above, cmp}
 use Rattle.basics.specs.Members.{mem, Within}
 use Rattle.label.specs.Limits.{firstVariable, variableCount, firstMinimum, minimumCount}
+use Rattle.label.specs.Labels.{areArities}
 use Rattle.label.specs.LabelLaws.{term-below}
 use Rattle.label.specs.Renamings.{rank, renamed, numbering, Increasing}
 use Rattle.label.specs.RenamingLaws.{Numbered, rank-below, numbering-low, numbering-variable, numbering-minimum, numbering-increasing}
 use Rattle.diagram.specs.Diagram.{Diagram}
 use Rattle.diagram.specs.Rows.{rows}
-use Rattle.diagram.specs.Listing.{listing, Good}
+use Rattle.diagram.specs.Listing.{listing, Fine, Good}
 use Rattle.diagram.specs.Variables.{occurs, occurring, variables, minimums, closedFrom, closed, after}
 use Rattle.rename.specs.Relabelling.{Named, relabelled, KindsFit}
 use Rattle.rename.specs.RelabelLaws.{labels-weaken, relabel-same}
@@ -23,7 +23,7 @@ use Rattle.rename.specs.Ascending.{consecutive}
 use Rattle.rename.specs.AscendingLaws.{mem-place, rank-place, ascending-one, consecutive-ascending, in-consecutive, consecutive-in, rank-consecutive}
 use Rattle.rename.specs.TermLaws.{renamed-same}
 use Rattle.rename.specs.VariableLaws.{Origin, terms-each-occurs, named-labels, in-occurring, occurring-in, occurring-ascending, occurs-term, occurs-variable, occurs-minimum}
-use Rattle.rename.specs.VariableLaws.{variables-few, minimums-few, terms-numbered, occurs-numbered, renaming-good, renaming-rows, renaming-listing, occurs-renaming}
+use Rattle.rename.specs.VariableLaws.{variables-few, minimums-few, terms-numbered, renaming-good, renaming-rows, renaming-listing, occurs-renaming}
 use Rattle.rename.specs.VariableLaws.{renaming-occurs}
 
 -- one kind of variables, of the c numbers from f on: ρ gives those of d the numbers from k on, in their order, and no other term of d a number of the kind
@@ -42,10 +42,6 @@ module _ (ar : List ℕ) (m n : ℕ) (d : Diagram) (fit : KindsFit ar m n d) (go
   pub closedFrom-good : Good ar (closedFrom ar m n d)
   unfolding closedFrom
   closedFrom-good = renaming-good ar (good .arities) _ _ closing-increasing d good (terms-numbered ar d (good .fine))
-
-  pub closedFrom-rows : length (rows (closedFrom ar m n d)) ≡ length (rows d)
-  unfolding closedFrom
-  closedFrom-rows = renaming-rows ar (good .arities) _ _ closing-increasing d (good .fine) (terms-numbered ar d (good .fine))
 
   pub closedFrom-listing : listing (closedFrom ar m n d) ≡ relabelled (renamed ar (numbering (variables ar d) (minimums ar d) m n)) (listing d)
   unfolding closedFrom
@@ -144,6 +140,15 @@ module _ (ar : List ℕ) (m n : ℕ) (d : Diagram) (fit : KindsFit ar m n d) (go
   unfolding minimums
   closedFrom-minimums = kind-consecutive firstMinimum minimumCount n minimum-kind
 
+-- closing up keeps the count of rows
+pub closed-count : (ar : List ℕ) (d : Diagram) → areArities ar ≡ true → Fine ar d → length (rows (closed ar d)) ≡ length (rows d)
+unfolding closed closedFrom
+closed-count ar d arities fine =
+    renaming-rows ar arities (Numbered (variables ar d) (minimums ar d)) (numbering (variables ar d) (minimums ar d) firstVariable firstMinimum)
+    (numbering-increasing (variables ar d) (minimums ar d) firstVariable firstMinimum
+    (omega arith) (omega (arith, variables-few ar d)) (omega arith) (omega (arith, minimums-few ar d)))
+    d fine (terms-numbered ar d fine)
+
 module _ (ar : List ℕ) (d : Diagram) (good : Good ar d) where
   -- closing up is always possible
   pub closed-fit : KindsFit ar firstVariable firstMinimum d
@@ -159,12 +164,7 @@ module _ (ar : List ℕ) (d : Diagram) (good : Good ar d) where
   closed-good = closedFrom-good ar firstVariable firstMinimum d closed-fit good
 
   pub closed-rows : length (rows (closed ar d)) ≡ length (rows d)
-  unfolding closed
-  closed-rows = closedFrom-rows ar firstVariable firstMinimum d closed-fit good
-
-  pub closed-listing : listing (closed ar d) ≡ relabelled (renamed ar (numbering (variables ar d) (minimums ar d) firstVariable firstMinimum)) (listing d)
-  unfolding closed
-  closed-listing = closedFrom-listing ar firstVariable firstMinimum d closed-fit good
+  closed-rows = closed-count ar d (good .arities) (good .fine)
 
   pub closed-variables : variables ar (closed ar d) ≡ consecutive firstVariable (length (variables ar d))
   unfolding closed
@@ -223,15 +223,6 @@ module _ (ar : List ℕ) (a b : Diagram) (good-a : Good ar a) (good-b : Good ar 
   pub after-good : Good ar (after ar a b)
   unfolding after
   after-good = closedFrom-good ar _ _ b (after-fit ar a b room space) good-b
-
-  pub after-rows : length (rows (after ar a b)) ≡ length (rows b)
-  unfolding after
-  after-rows = closedFrom-rows ar _ _ b (after-fit ar a b room space) good-b
-
-  pub after-listing : listing (after ar a b)
-      ≡ relabelled (renamed ar (numbering (variables ar b) (minimums ar b) (firstVariable + length (variables ar a)) (firstMinimum + length (minimums ar a)))) (listing b)
-  unfolding after
-  after-listing = closedFrom-listing ar _ _ b (after-fit ar a b room space) good-b
 
   pub after-variables : variables ar (after ar a b) ≡ consecutive (firstVariable + length (variables ar a)) (length (variables ar b))
   unfolding after

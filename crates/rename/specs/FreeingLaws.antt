@@ -10,14 +10,14 @@ use lib.Dec.{ltb}
 use borrow.Author.Tests.{lt-ltb, le-ltb}
 use Rattle.basics.specs.Tests.{Cmp, below, equal, above, cmp}
 use Rattle.label.specs.Limits.{firstParameter, firstVariable, firstMinimum}
-use Rattle.label.specs.Renamings.{renamed, freeing, Increasing}
+use Rattle.label.specs.Renamings.{freeing, Increasing}
 use Rattle.label.specs.RenamingLaws.{Freed, freeing-increasing, freeing-constant, freeing-parameter, freeing-variable, freeing-minimum}
 use Rattle.diagram.specs.Diagram.{Diagram}
 use Rattle.diagram.specs.Rows.{rows}
-use Rattle.diagram.specs.Listing.{listing, Good}
+use Rattle.diagram.specs.Listing.{Good}
 use Rattle.diagram.specs.Variables.{occurs}
-use Rattle.rename.specs.Relabelling.{Terms, relabelled}
-use Rattle.rename.specs.VariableLaws.{Origin, terms-each-occurs, occurs-term, renaming-good, renaming-rows, renaming-listing, occurs-renaming, renaming-occurs}
+use Rattle.rename.specs.Relabelling.{Terms}
+use Rattle.rename.specs.VariableLaws.{Origin, terms-each-occurs, occurs-term, renaming-good, renaming-rows, renaming-occurs}
 use Rattle.rename.specs.Valuations.{leafOf}
 use Rattle.rename.specs.ValuationLaws.{cond-below, leaf-agree, leaf-renaming}
 use Rattle.rename.specs.Freeing.{freed, Freeable, FreedBy, BoundBy, FreedFree}
@@ -75,28 +75,11 @@ module _ (ar : List ℕ) (c : ℕ) (d : Diagram) (good : Good ar d) (free : Free
   unfolding freed
   freed-rows = renaming-rows ar (good .arities) (Freed c) (freeing c) increasing d (good .fine) terms-freed
 
-  pub freed-listing : listing (freed ar c d) ≡ relabelled (renamed ar (freeing c)) (listing d)
-  unfolding freed
-  freed-listing = renaming-listing ar (good .arities) (Freed c) (freeing c) increasing d (good .fine) terms-freed
-
-  pub freed-occurs : (t : ℕ) → occurs ar t d ≡ true → occurs ar (freeing c t) (freed ar c d) ≡ true
-  unfolding freed
-  freed-occurs t e = occurs-renaming ar (good .arities) (Freed c) (freeing c) increasing d t (good .fine) terms-freed e
-
   pub occurs-in-freed : (t : ℕ) → occurs ar t (freed ar c d) ≡ true → Origin ar (freeing c) d t
   unfolding freed
   occurs-in-freed t e = renaming-occurs ar (good .arities) (Freed c) (freeing c) increasing d t (good .fine) terms-freed e
 
   -- no parameter is left
-  pub freed-no-parameter : (t : ℕ) → occurs ar t (freed ar c d) ≡ true → (t < firstParameter) ⊎ (firstVariable ≤ t)
-  freed-no-parameter t e = let o = occurs-in-freed t e in go (o .origin) (o .gives) (kind (o .origin) (o .occurring))
-    where
-      go : (u : ℕ) → freeing c u ≡ t → Kind c u → (t < firstParameter) ⊎ (firstVariable ≤ t)
-      go u g (constant h) = inl (omega (arith, freeing-constant c u h))
-      go u g (parameter h k) = inr (omega (arith, freeing-parameter c u h k))
-      go u g (variable h k) = inr (omega (arith, freeing-variable c u (omega (arith, free .count)) h (omega arith)))
-      go u g (minimum h) = inr (omega (arith, freeing-minimum c u (omega (arith, free .count)) h))
-
   pub leaf-freed : (h : ℕ → List ℕ → Bool) (θ : ℕ → ℕ) → leafOf ar h θ (freed ar c d) ≡ leafOf ar h (λ t. θ (freeing c t)) d
   unfolding freed
   leaf-freed h θ = leaf-renaming ar (good .arities) (Freed c) (freeing c) increasing h θ d (good .fine) terms-freed

@@ -4,7 +4,7 @@
 --   freed == parameter i turned into variable i, the other variables moved up by the parameter count; minimum variables stay
 --
 -- For proofs
---   Labels, Terms == every label, every term of a diagram has a property
+--   Terms == every term of a diagram has a property
 --   relabelled == the words of rows, each branch's label changed
 --   KindsFit == the variables and the minimum variables of a diagram, numbered anew from two numbers on, stay each among their kind
 --   Ascending, consecutive == lists of numbers that ascend; m, m + 1, .., m + n - 1

@@ -9,23 +9,19 @@ use lib.Seq.{getD-at}
 use lib.Dec.{eqb, ltb}
 use borrow.Author.Tests.{eq-eqb, ne-eqb, lt-ltb, le-ltb}
 use Rattle.basics.specs.Tests.{Flag, isTrue, isFalse, flag, Cmp, below, equal, above, cmp}
-use Rattle.basics.specs.Members.{mem, clash}
+use Rattle.basics.specs.Members.{mem}
 use Rattle.label.specs.Limits.{firstVariable, variableCount, firstMinimum, minimumCount, termEnd, firstParameter, parameterCount}
 use Rattle.label.specs.Callers.{TermMap}
 use Rattle.label.specs.Renamings.{rank, numbering, freeing, mapOf}
 use Rattle.label.specs.RenamingLaws.{rank-below, numbering-low, numbering-variable, numbering-minimum, freeing-constant, freeing-parameter, freeing-variable, freeing-minimum}
 use Rattle.diagram.specs.Diagram.{Diagram}
-use Rattle.diagram.specs.Variables.{occurs, pickList, occurring, variables, minimums}
+use Rattle.diagram.specs.Variables.{occurs, occurring, variables, minimums}
 use Rattle.rename.specs.Ascending.{Ascending}
 use Rattle.rename.specs.AscendingLaws.{ascending-weaken, ascending-not, rank-none}
 use Rattle.rename.specs.Maps.{tabled, isUsed, usedFrom, usedVariables, usedMinimums, Marks, closeAt}
 use Rattle.rename.specs.Calls.{Closable}
 use mathlib.Core.Logic.{_⊎_, inl, inr}
-use Rattle.label.specs.LabelLaws.{term-below}
-use Rattle.diagram.specs.Listing.{Good}
-use Rattle.rename.specs.VariableLaws.{occurs-term}
 use Rattle.rename.specs.Relabelling.{KindsFit}
-use Rattle.rename.specs.Freeing.{Freeable}
 use Rattle.rename.specs.FreeingLaws.{freeing-other}
 
 -- the laws of `tabled`: nothing else unfolds it
@@ -66,7 +62,7 @@ unfolding usedFrom
 used-ascending used t zero = tt
 used-ascending used t (suc n) = go (flag (isUsed used t)) (used-ascending used (suc t) n)
   where
-    go : Flag (isUsed used t) → Ascending (suc t) (usedFrom used (suc t) n) → Ascending t (pickList (isUsed used t) (t ∷ usedFrom used (suc t) n) (usedFrom used (suc t) n))
+    go : Flag (isUsed used t) → Ascending (suc t) (usedFrom used (suc t) n) → Ascending t (cond (isUsed used t) (t ∷ usedFrom used (suc t) n) (usedFrom used (suc t) n))
     go (isTrue p) ih = rw p (omega arith, ih)
     go (isFalse p) ih = rw p (ascending-weaken t (suc t) (usedFrom used (suc t) n) (omega arith) ih)
 
@@ -77,7 +73,7 @@ used-mem used t zero u h k = absurd (omega arith)
 used-mem used t (suc n) u h k = go (flag (isUsed used t)) (cmp t u) (used-mem used (suc t) n u)
   where
     go : Flag (isUsed used t) → Cmp t u → (suc t ≤ u → u < suc t + n → mem eqb u (usedFrom used (suc t) n) ≡ isUsed used u)
-        → mem eqb u (pickList (isUsed used t) (t ∷ usedFrom used (suc t) n) (usedFrom used (suc t) n)) ≡ isUsed used u
+        → mem eqb u (cond (isUsed used t) (t ∷ usedFrom used (suc t) n) (usedFrom used (suc t) n)) ≡ isUsed used u
     go (isTrue p) (below q) ih = rw (p, ne-eqb u t (omega arith)) (ih q (omega arith))
     go (isTrue p) (equal q) ih = rw (p, eq-eqb u t (sym q), ← q) (sym p)
     go (isFalse p) (below q) ih = rw p (ih q (omega arith))
@@ -249,23 +245,3 @@ free-below c t m h = go (cmp t firstParameter) (cmp t (firstParameter + c)) (cmp
 
 pub free-terms : (c : ℕ) (rest : List ℕ) → c ≤ parameterCount → TermMap (tabled (freeing c) termEnd ++ rest)
 free-terms c rest m = tabled-terms (freeing c) rest (λ t h. free-below c t m h)
-
--- no parameter past the count is marked, and no variable that would pass the last
-pub marks-freeable : (ar : List ℕ) (c : ℕ) (d : Diagram) (used : List ℕ) → Good ar d → Marks ar d used → c ≤ parameterCount
-    → ((t : ℕ) → firstParameter + c ≤ t → t < firstVariable → isUsed used t ≡ false) → ((t : ℕ) → firstMinimum ≤ t + c → t < firstMinimum → isUsed used t ≡ false)
-    → Freeable ar c d
-marks-freeable ar c d used good m few p q = record {
-  count = few;
-  parameters = λ t e h. first t e h (cmp t (firstParameter + c));
-  variables = λ t e h k. second t e k (cmp (t + c) firstMinimum);
-}
-  where
-    first : (t : ℕ) → occurs ar t d ≡ true → t < firstVariable → Cmp t (firstParameter + c) → t < firstParameter + c
-    first t e h (below k) = k
-    first t e h (equal k) = clash e (sym (used-occurs ar d used m t (omega arith)) ∙ p t (omega arith) h)
-    first t e h (above k) = clash e (sym (used-occurs ar d used m t (omega arith)) ∙ p t (omega arith) h)
-
-    second : (t : ℕ) → occurs ar t d ≡ true → t < firstMinimum → Cmp (t + c) firstMinimum → t + c < firstMinimum
-    second t e h (below k) = k
-    second t e h (equal k) = clash e (sym (used-occurs ar d used m t (omega arith)) ∙ q t (omega arith) h)
-    second t e h (above k) = clash e (sym (used-occurs ar d used m t (omega arith)) ∙ q t (omega arith) h)

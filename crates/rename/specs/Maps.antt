@@ -8,7 +8,7 @@ use lib.Dec.{eqb, ltb}
 use Rattle.label.specs.Limits.{firstVariable, variableCount, firstMinimum, minimumCount, termEnd}
 use Rattle.label.specs.Renamings.{numbering}
 use Rattle.diagram.specs.Diagram.{Diagram}
-use Rattle.diagram.specs.Variables.{occurs, pickList}
+use Rattle.diagram.specs.Variables.{occurs}
 
 -- f 0, f 1, .., f (n - 1)
 unfoldable pub tabled : (ℕ → ℕ) → ℕ → List ℕ
@@ -22,7 +22,7 @@ isUsed used t = not (eqb (getD used t 0) 0)
 -- those of the n terms from t on that are marked, ascending
 unfoldable pub usedFrom : List ℕ → ℕ → ℕ → List ℕ
 usedFrom used t zero = []
-usedFrom used t (suc n) = pickList (isUsed used t) (t ∷ usedFrom used (suc t) n) (usedFrom used (suc t) n)
+usedFrom used t (suc n) = cond (isUsed used t) (t ∷ usedFrom used (suc t) n) (usedFrom used (suc t) n)
 
 -- the marked variables, ascending
 unfoldable pub usedVariables : List ℕ → List ℕ

@@ -11,12 +11,12 @@ use borrow.Author.Tests.{eq-eqb, ne-eqb}
 use Rattle.basics.specs.Tests.{Flag, isTrue, isFalse, flag, Cmp, below, equal, above, cmp}
 use Rattle.basics.specs.Members.{mem}
 use Rattle.label.specs.Limits.{leafMark}
-use Rattle.diagram.specs.Diagram.{Tree, Diagram, leaf, branch, eval, relabel, same, From, Ordered, Reduced}
+use Rattle.diagram.specs.Diagram.{Tree, Diagram, leaf, branch, eval, relabel, same, From, Ordered, Reduced, EveryLabel}
 use Rattle.diagram.specs.DiagramLaws.{same-eq, same-refl, onto-old, onto-leaf, onto-branch}
 use Rattle.diagram.specs.Rows.{onto, rows}
 use Rattle.diagram.specs.Listing.{index, encode, listing}
 use Rattle.diagram.specs.ListingLaws.{index-here, index-there}
-use Rattle.rename.specs.Relabelling.{Labels, AllLabels, Keeps, relabelled}
+use Rattle.rename.specs.Relabelling.{AllLabels, Keeps, relabelled}
 
 -- the meaning, for any change of labels
 pub eval-relabel : {L M : Type 0} (c : M → Bool) (g : L → M) (d : Tree L) → eval c (relabel g d) ≡ eval (λ l. c (g l)) d
@@ -25,19 +25,19 @@ eval-relabel c g (leaf v) = refl
 eval-relabel c g (branch l t f) = rw (eval-relabel c g t, eval-relabel c g f)
 
 -- two choices that agree on the labels of d lead to the same leaf
-pub eval-agree : (c e : ℕ → Bool) (d : Diagram) → Labels (λ l. c l ≡ e l) d → eval c d ≡ eval e d
+pub eval-agree : (c e : ℕ → Bool) (d : Diagram) → EveryLabel (λ l. c l ≡ e l) d → eval c d ≡ eval e d
 unfolding eval
 eval-agree c e (leaf v) h = refl
 eval-agree c e (branch l t f) h = rw (h .0, eval-agree c e t (h .1), eval-agree c e f (h .2))
 
 -- two changes that agree on the labels of d
-pub relabel-agree : (g h : ℕ → ℕ) (d : Diagram) → Labels (λ l. g l ≡ h l) d → relabel g d ≡ relabel h d
+pub relabel-agree : (g h : ℕ → ℕ) (d : Diagram) → EveryLabel (λ l. g l ≡ h l) d → relabel g d ≡ relabel h d
 unfolding relabel
 relabel-agree g h (leaf v) e = refl
 relabel-agree g h (branch l t f) e = rw (e .0, relabel-agree g h t (e .1), relabel-agree g h f (e .2))
 
 -- a change that leaves the labels of d
-pub relabel-same : (g : ℕ → ℕ) (d : Diagram) → Labels (λ l. g l ≡ l) d → relabel g d ≡ d
+pub relabel-same : (g : ℕ → ℕ) (d : Diagram) → EveryLabel (λ l. g l ≡ l) d → relabel g d ≡ d
 unfolding relabel
 relabel-same g (leaf v) e = refl
 relabel-same g (branch l t f) e = rw (e .0, relabel-same g t (e .1), relabel-same g f (e .2))
@@ -48,21 +48,21 @@ unfolding relabel
 relabel-twice g h (leaf v) = refl
 relabel-twice g h (branch l t f) = rw (relabel-twice g h t, relabel-twice g h f)
 
-pub labels-weaken : (Q R : ℕ → Type 0) (d : Diagram) → ((l : ℕ) → Q l → R l) → Labels Q d → Labels R d
+pub labels-weaken : (Q R : ℕ → Type 0) (d : Diagram) → ((l : ℕ) → Q l → R l) → EveryLabel Q d → EveryLabel R d
 labels-weaken Q R (leaf v) h q = tt
 labels-weaken Q R (branch l t f) h q = (h l (q .0), labels-weaken Q R t h (q .1), labels-weaken Q R f h (q .2))
 
-pub labels-relabel : (Q R : ℕ → Type 0) (g : ℕ → ℕ) (d : Diagram) → ((l : ℕ) → Q l → R (g l)) → Labels Q d → Labels R (relabel g d)
+pub labels-relabel : (Q R : ℕ → Type 0) (g : ℕ → ℕ) (d : Diagram) → ((l : ℕ) → Q l → R (g l)) → EveryLabel Q d → EveryLabel R (relabel g d)
 unfolding relabel
 labels-relabel Q R g (leaf v) h q = tt
 labels-relabel Q R g (branch l t f) h q = (h l (q .0), labels-relabel Q R g t h (q .1), labels-relabel Q R g f h (q .2))
 
-labels-snoc : (Q : ℕ → Type 0) (rs : List Diagram) (d : Diagram) → AllLabels Q rs → Labels Q d → AllLabels Q (rs ++ (d ∷ []))
+labels-snoc : (Q : ℕ → Type 0) (rs : List Diagram) (d : Diagram) → AllLabels Q rs → EveryLabel Q d → AllLabels Q (rs ++ (d ∷ []))
 labels-snoc Q [] d a q = (q, tt)
 labels-snoc Q (r ∷ rs) d a q = (a .0, labels-snoc Q rs d (a .1) q)
 
 -- the rows have no other labels
-pub labels-onto : (Q : ℕ → Type 0) (d : Diagram) (rs : List Diagram) → Labels Q d → AllLabels Q rs → AllLabels Q (onto d rs)
+pub labels-onto : (Q : ℕ → Type 0) (d : Diagram) (rs : List Diagram) → EveryLabel Q d → AllLabels Q rs → AllLabels Q (onto d rs)
 labels-onto Q (leaf v) rs q a = go (flag (mem same (leaf v) rs))
   where
     go : Flag (mem same (leaf v) rs) → AllLabels Q (onto (leaf v) rs)
@@ -85,7 +85,7 @@ module _ (Q : ℕ → Type 0) (g : ℕ → ℕ) (keeps : Keeps Q g) where
       go (equal h) = eq-eqb (g l) (g k) (ap g h) ∙ sym (eq-eqb l k h)
       go (above h) = ne-eqb (g l) (g k) (omega (arith, keeps .order k l q p h)) ∙ sym (ne-eqb l k (omega arith))
 
-  pub relabel-test : (a b : Diagram) → Labels Q a → Labels Q b → same (relabel g a) (relabel g b) ≡ same a b
+  pub relabel-test : (a b : Diagram) → EveryLabel Q a → EveryLabel Q b → same (relabel g a) (relabel g b) ≡ same a b
   unfolding relabel same
   relabel-test (leaf v) (leaf w) p q = refl
   relabel-test (leaf v) (branch k u h) p q = refl
@@ -94,36 +94,36 @@ module _ (Q : ℕ → Type 0) (g : ℕ → ℕ) (keeps : Keeps Q g) where
       rw (label-test l k (p .0) (q .0), relabel-test t u (p .1) (q .1), relabel-test f h (p .2) (q .2))
 
   -- different diagrams stay different
-  pub relabel-injective : (a b : Diagram) → Labels Q a → Labels Q b → relabel g a ≡ relabel g b → a ≡ b
+  pub relabel-injective : (a b : Diagram) → EveryLabel Q a → EveryLabel Q b → relabel g a ≡ relabel g b → a ≡ b
   relabel-injective a b p q e = same-eq a b (sym (relabel-test a b p q) ∙ rw e (same-refl (relabel g b)))
 
   -- the order stays
-  pub relabel-above : (l : ℕ) (d : Diagram) → Q l → Labels Q d → From (suc l) d → From (suc (g l)) (relabel g d)
+  pub relabel-above : (l : ℕ) (d : Diagram) → Q l → EveryLabel Q d → From (suc l) d → From (suc (g l)) (relabel g d)
   unfolding relabel
   relabel-above l (leaf v) p q o = tt
   relabel-above l (branch k t f) p q o =
       (keeps .order l k p (q .0) (o .0), relabel-above k t (q .0) (q .1) (o .1), relabel-above k f (q .0) (q .2) (o .2))
 
-  pub relabel-from : (n m : ℕ) (d : Diagram) → ((l : ℕ) → Q l → n ≤ l → m ≤ g l) → Labels Q d → From n d → From m (relabel g d)
+  pub relabel-from : (n m : ℕ) (d : Diagram) → ((l : ℕ) → Q l → n ≤ l → m ≤ g l) → EveryLabel Q d → From n d → From m (relabel g d)
   unfolding relabel
   relabel-from n m (leaf v) h q o = tt
   relabel-from n m (branch l t f) h q o = (h l (q .0) (o .0), relabel-above l t (q .0) (q .1) (o .1), relabel-above l f (q .0) (q .2) (o .2))
 
-  pub relabel-ordered : (d : Diagram) → Labels Q d → Ordered d → Ordered (relabel g d)
+  pub relabel-ordered : (d : Diagram) → EveryLabel Q d → Ordered d → Ordered (relabel g d)
   relabel-ordered d q o = relabel-from 0 0 d (λ l p h. omega arith) q o
 
-  pub relabel-reduced : (d : Diagram) → Labels Q d → Reduced d → Reduced (relabel g d)
+  pub relabel-reduced : (d : Diagram) → EveryLabel Q d → Reduced d → Reduced (relabel g d)
   unfolding relabel
   relabel-reduced (leaf v) q r = tt
   relabel-reduced (branch l t f) q r =
       (λ e. r .0 (relabel-injective t f (q .1) (q .2) e), relabel-reduced t (q .1) (r .1), relabel-reduced f (q .2) (r .2))
 
-  pub relabel-mem : (d : Diagram) (rs : List Diagram) → Labels Q d → AllLabels Q rs → mem same (relabel g d) (map (relabel g) rs) ≡ mem same d rs
+  pub relabel-mem : (d : Diagram) (rs : List Diagram) → EveryLabel Q d → AllLabels Q rs → mem same (relabel g d) (map (relabel g) rs) ≡ mem same d rs
   relabel-mem d [] q a = refl
   relabel-mem d (r ∷ rs) q a = rw (relabel-test d r q (a .0), relabel-mem d rs q (a .1))
 
   -- the rows are the rows relabelled
-  pub relabel-onto : (d : Diagram) (rs : List Diagram) → Labels Q d → AllLabels Q rs → onto (relabel g d) (map (relabel g) rs) ≡ map (relabel g) (onto d rs)
+  pub relabel-onto : (d : Diagram) (rs : List Diagram) → EveryLabel Q d → AllLabels Q rs → onto (relabel g d) (map (relabel g) rs) ≡ map (relabel g) (onto d rs)
   unfolding relabel
   relabel-onto (leaf v) rs q a = go (flag (mem same (leaf v) rs))
     where
@@ -143,14 +143,14 @@ module _ (Q : ℕ → Type 0) (g : ℕ → ℕ) (keeps : Keeps Q g) where
           rw (onto-branch l t f rs e, map-append, ← ih)
           (onto-branch (g l) (relabel g t) (relabel g f) (map (relabel g) rs) (relabel-mem (branch l t f) rs q a ∙ e))
 
-  pub relabel-rows : (d : Diagram) → Labels Q d → rows (relabel g d) ≡ map (relabel g) (rows d)
+  pub relabel-rows : (d : Diagram) → EveryLabel Q d → rows (relabel g d) ≡ map (relabel g) (rows d)
   unfolding rows
   relabel-rows d q = relabel-onto d [] q tt
 
-  pub relabel-count : (d : Diagram) → Labels Q d → length (rows (relabel g d)) ≡ length (rows d)
+  pub relabel-count : (d : Diagram) → EveryLabel Q d → length (rows (relabel g d)) ≡ length (rows d)
   relabel-count d q = ap length (relabel-rows d q) ∙ length-map (rows d) (relabel g)
 
-  pub relabel-index : (d : Diagram) (rs : List Diagram) → Labels Q d → AllLabels Q rs → index (relabel g d) (map (relabel g) rs) ≡ index d rs
+  pub relabel-index : (d : Diagram) (rs : List Diagram) → EveryLabel Q d → AllLabels Q rs → index (relabel g d) (map (relabel g) rs) ≡ index d rs
   unfolding index
   relabel-index d [] q a = refl
   relabel-index d (r ∷ rs) q a = go (flag (same d r)) (relabel-index d rs q (a .1))
@@ -176,7 +176,7 @@ module _ (Q : ℕ → Type 0) (g : ℕ → ℕ) (keeps : Keeps Q g) where
           relabel-encode whole rs w (a .1),
         )
 
-    pub relabel-listing : (d : Diagram) → Labels Q d → listing (relabel g d) ≡ relabelled g (listing d)
+    pub relabel-listing : (d : Diagram) → EveryLabel Q d → listing (relabel g d) ≡ relabelled g (listing d)
     unfolding listing rows
     relabel-listing d q =
         rw (relabel-rows d q) (relabel-encode (rows d) (rows d) (labels-onto Q d [] q tt) (labels-onto Q d [] q tt))

@@ -8,18 +8,13 @@ use lib.Dec.{eqb}
 use Rattle.label.specs.Limits.{firstVariable, firstMinimum, termEnd, leafMark}
 use Rattle.label.specs.Labels.{isLabel}
 use Rattle.label.specs.Renamings.{EachIn}
-use Rattle.diagram.specs.Diagram.{Diagram, leaf, branch}
+use Rattle.diagram.specs.Diagram.{Diagram, EveryLabel}
 use Rattle.diagram.specs.Variables.{variables, minimums}
-
--- every label of d is in Q
-abbrev pub Labels : (ℕ → Type 0) → Diagram → Type 0
-Labels Q (leaf v) = Unit {0}
-Labels Q (branch l t f) = Q l × Labels Q t × Labels Q f
 
 -- every label of the diagrams ds is in Q
 abbrev pub AllLabels : (ℕ → Type 0) → List Diagram → Type 0
 AllLabels Q [] = Unit {0}
-AllLabels Q (d ∷ ds) = Labels Q d × AllLabels Q ds
+AllLabels Q (d ∷ ds) = EveryLabel Q d × AllLabels Q ds
 
 -- g keeps the order of the labels in Q
 pub record Keeps (Q : ℕ → Type 0) (g : ℕ → ℕ) : Type 0 where
@@ -38,7 +33,7 @@ relabelled g (x ∷ y ∷ z ∷ ws) = labelled g x ∷ y ∷ z ∷ relabelled g 
 
 -- P names every term of every label of d
 abbrev pub Terms : List ℕ → (ℕ → Type 0) → Diagram → Type 0
-Terms ar P d = Labels (EachIn ar P) d
+Terms ar P d = EveryLabel (EachIn ar P) d
 
 -- labels under the arity list ar whose terms P names
 abbrev pub Named : List ℕ → (ℕ → Type 0) → ℕ → Type 0

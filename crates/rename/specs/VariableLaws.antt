@@ -1,7 +1,7 @@
 -- Laws of the terms and the variables of a diagram, and of diagrams whose terms are renamed in their order.
 use mathlib.Core.Path.{_≡_, refl, sym}
 use mathlib.Core.Logic.{_⊎_, inl, inr}
-use mathlib.Core.Bool.{true, _||_, false}
+use mathlib.Core.Bool.{true, _||_, cond}
 use mathlib.Core.List.{List, _∷_, map}
 use Prim.Native.Nat.{ℕ, zero, suc, _+_, _≤_, _<_}
 use native.Mathlib.Omega.{arith}
@@ -9,22 +9,22 @@ use lib.ListN.{length}
 use lib.Dec.{eqb}
 use borrow.Author.Tests.{eqb-true, eq-eqb}
 use Rattle.basics.specs.Tests.{Flag, isTrue, isFalse, flag, Either, one, other, either, or-one, or-other, Cmp, below, equal, above, cmp}
-use Rattle.basics.specs.Members.{mem, NoDup, clash}
+use Rattle.basics.specs.Members.{mem, clash}
 use Rattle.label.specs.Limits.{firstVariable, variableCount, firstMinimum, minimumCount, termEnd}
 use Rattle.label.specs.Terms.{isTerm}
-use Rattle.label.specs.Labels.{areArities, isLabel, unpacked, termsOf}
+use Rattle.label.specs.Labels.{areArities, unpacked, termsOf}
 use Rattle.label.specs.Renamings.{renamed, Increasing, EachIn}
 use Rattle.label.specs.LabelLaws.{term-below}
 use Rattle.label.specs.RenamingLaws.{renamed-label, renamed-less, renamed-terms, Numbered}
-use Rattle.diagram.specs.Diagram.{Diagram, leaf, branch, relabel}
+use Rattle.diagram.specs.Diagram.{Diagram, leaf, branch, relabel, EveryLabel}
 use Rattle.diagram.specs.Rows.{rows}
 use Rattle.diagram.specs.Listing.{listing, Fine, Good}
 use Rattle.diagram.specs.RowDiagrams.{not-mark}
-use Rattle.diagram.specs.Variables.{occurs, pickList, occurring, variables, minimums}
-use Rattle.rename.specs.Relabelling.{Labels, Terms, Named, Keeps, relabelled}
+use Rattle.diagram.specs.Variables.{occurs, occurring, variables, minimums}
+use Rattle.rename.specs.Relabelling.{Terms, Named, Keeps, relabelled}
 use Rattle.rename.specs.RelabelLaws.{labels-weaken, relabel-ordered, relabel-reduced, relabel-count, relabel-listing}
 use Rattle.rename.specs.Ascending.{Ascending}
-use Rattle.rename.specs.AscendingLaws.{Source, map-mem, mem-map, ascending-weaken, ascending-nodup}
+use Rattle.rename.specs.AscendingLaws.{Source, map-mem, mem-map, ascending-weaken}
 use Rattle.rename.specs.TermLaws.{each-weaken, each-mem, mem-each, label-terms}
 
 -- the terms of a diagram
@@ -53,28 +53,18 @@ occurs-terms ar P (branch l x y) t q e = go (either (mem eqb t (termsOf ar (unpa
         inner (one r) = i r
         inner (other r) = j r
 
-pub not-occurs : (ar : List ℕ) (P : ℕ → Type 0) (d : Diagram) (t : ℕ) → Terms ar P d → (P t → ⊥) → occurs ar t d ≡ false
-not-occurs ar P d t q n = go (flag (occurs ar t d))
-  where
-    go : Flag (occurs ar t d) → occurs ar t d ≡ false
-    go (isTrue e) = absurd (n (occurs-terms ar P d t q e))
-    go (isFalse e) = e
-
 -- what is true of every term that occurs
 pub terms-each-occurs : (ar : List ℕ) (P : ℕ → Type 0) (d : Diagram) → ((t : ℕ) → occurs ar t d ≡ true → P t) → Terms ar P d
 terms-each-occurs ar P d h = terms-weaken ar (λ t. occurs ar t d ≡ true) P d h (terms-occur ar d)
 
-pub fine-labels : (ar : List ℕ) (d : Diagram) → Fine ar d → Labels (λ l. isLabel ar l ≡ true) d
-fine-labels ar (leaf v) f = tt
-fine-labels ar (branch l x y) f = (f .0, fine-labels ar x (f .1), fine-labels ar y (f .2))
-
 pub fine-terms : (ar : List ℕ) (d : Diagram) → Fine ar d → Terms ar (λ t. isTerm t ≡ true) d
-fine-terms ar d f = labels-weaken _ _ d (λ l e. label-terms ar l e) (fine-labels ar d f)
+fine-terms ar (leaf v) f = tt
+fine-terms ar (branch l x y) f = (label-terms ar l (f .0), fine-terms ar x (f .1), fine-terms ar y (f .2))
 
 pub occurs-term : (ar : List ℕ) (d : Diagram) (t : ℕ) → Fine ar d → occurs ar t d ≡ true → isTerm t ≡ true
 occurs-term ar d t f e = occurs-terms ar (λ t. isTerm t ≡ true) d t (fine-terms ar d f) e
 
-pub named-labels : (ar : List ℕ) (P : ℕ → Type 0) (d : Diagram) → Fine ar d → Terms ar P d → Labels (Named ar P) d
+pub named-labels : (ar : List ℕ) (P : ℕ → Type 0) (d : Diagram) → Fine ar d → Terms ar P d → EveryLabel (Named ar P) d
 named-labels ar P (leaf v) f q = tt
 named-labels ar P (branch l x y) f q = ((f .0, q .0), named-labels ar P x (f .1) (q .1), named-labels ar P y (f .2) (q .2))
 
@@ -104,7 +94,7 @@ occurring-in ar d t zero u e h k = absurd (omega arith)
 occurring-in ar d t (suc n) u e h k = go (flag (occurs ar t d)) (cmp t u) (occurring-in ar d (suc t) n u e)
   where
     go : Flag (occurs ar t d) → Cmp t u → (suc t ≤ u → u < suc t + n → mem eqb u (occurring ar d (suc t) n) ≡ true)
-        → mem eqb u (pickList (occurs ar t d) (t ∷ occurring ar d (suc t) n) (occurring ar d (suc t) n)) ≡ true
+        → mem eqb u (cond (occurs ar t d) (t ∷ occurring ar d (suc t) n) (occurring ar d (suc t) n)) ≡ true
     go (isTrue p) (below q) ih = rw p (or-other (eqb u t) _ (ih q (omega arith)))
     go (isTrue p) (equal q) ih = rw p (or-one _ _ (eq-eqb u t (sym q)))
     go (isTrue p) (above q) ih = absurd (omega arith)
@@ -117,7 +107,7 @@ unfolding occurring
 occurring-ascending ar d t zero = tt
 occurring-ascending ar d t (suc n) = go (flag (occurs ar t d)) (occurring-ascending ar d (suc t) n)
   where
-    go : Flag (occurs ar t d) → Ascending (suc t) (occurring ar d (suc t) n) → Ascending t (pickList (occurs ar t d) (t ∷ occurring ar d (suc t) n) (occurring ar d (suc t) n))
+    go : Flag (occurs ar t d) → Ascending (suc t) (occurring ar d (suc t) n) → Ascending t (cond (occurs ar t d) (t ∷ occurring ar d (suc t) n) (occurring ar d (suc t) n))
     go (isTrue p) ih = rw p (omega arith, ih)
     go (isFalse p) ih = rw p (ascending-weaken t (suc t) (occurring ar d (suc t) n) (omega arith) ih)
 
@@ -126,7 +116,7 @@ unfolding occurring
 length-occurring ar d t zero = omega arith
 length-occurring ar d t (suc n) = go (flag (occurs ar t d)) (length-occurring ar d (suc t) n)
   where
-    go : Flag (occurs ar t d) → length (occurring ar d (suc t) n) ≤ n → length (pickList (occurs ar t d) (t ∷ occurring ar d (suc t) n) (occurring ar d (suc t) n)) ≤ suc n
+    go : Flag (occurs ar t d) → length (occurring ar d (suc t) n) ≤ n → length (cond (occurs ar t d) (t ∷ occurring ar d (suc t) n) (occurring ar d (suc t) n)) ≤ suc n
     go (isTrue p) ih = rw p (omega arith)
     go (isFalse p) ih = rw p (omega arith)
 
@@ -144,9 +134,6 @@ module _ (ar : List ℕ) (d : Diagram) where
   unfolding variables
   variables-ascending = occurring-ascending ar d firstVariable variableCount
 
-  pub variables-nodup : NoDup eqb (variables ar d)
-  variables-nodup = ascending-nodup firstVariable (variables ar d) variables-ascending
-
   pub variables-few : length (variables ar d) ≤ variableCount
   unfolding variables
   variables-few = length-occurring ar d firstVariable variableCount
@@ -158,10 +145,6 @@ module _ (ar : List ℕ) (d : Diagram) where
   pub occurs-minimum : (t : ℕ) → occurs ar t d ≡ true → firstMinimum ≤ t → t < termEnd → mem eqb t (minimums ar d) ≡ true
   unfolding minimums
   occurs-minimum t e h k = occurring-in ar d firstMinimum minimumCount t e h k
-
-  pub minimums-ascending : Ascending firstMinimum (minimums ar d)
-  unfolding minimums
-  minimums-ascending = occurring-ascending ar d firstMinimum minimumCount
 
   pub minimums-few : length (minimums ar d) ≤ minimumCount
   unfolding minimums

@@ -3,7 +3,7 @@ use mathlib.Core.Path.{_≡_, refl, sym, ap, subst, fun-ext, _∙_}
 use mathlib.Core.Bool.{true}
 use mathlib.Core.List.{List, [], _∷_, map}
 use mathlib.Core.Option.{Option, some, none, Option·map}
-use Prim.Native.Nat.{ℕ, zero, suc, _-_, _≤_, _<_}
+use Prim.Native.Nat.{ℕ, zero, suc, _-_, _<_}
 use native.Mathlib.Omega.{arith}
 use lib.ListN.{length, getD}
 use lib.Dec.{eqb}
@@ -13,9 +13,9 @@ use Rattle.label.specs.ArityLaws.{terms-length}
 use Rattle.diagram.specs.Diagram.{Tree, Diagram}
 use Rattle.diagram.specs.Listing.{Fine}
 use Rattle.apply.specs.GoodLaws.{fine-every}
-use Rattle.state.specs.State.{Atomic, meaning, atomOf, State, Good, truth, holds, value, low, fixed, Fits}
+use Rattle.state.specs.State.{Atomic, meaning, atomOf, State, Good, truth, holds, value, low, fixed}
 use Rattle.state.specs.Max.{Tuple, none as no-objects, more}
-use Rattle.state.specs.Highest.{start, Bound}
+use Rattle.state.specs.Highest.{Bound}
 use Rattle.state.specs.HighestLaws.{start-fits, bound-tuple}
 use Rattle.state.specs.ValueLaws.{low-lt, low-ge, by-low}
 use Rattle.minimum.specs.NumberLaws.{number-is, number-one}
@@ -29,13 +29,6 @@ use Rattle.replay.specs.Along.{Alike}
 
 pub alike-same : (ar : List ℕ) (s t : State) → s ≡ t → Alike ar s t
 alike-same ar s t e = subst (Alike ar s) e (record { size = refl; constant = refl; fact = λ p os h k w. refl })
-
-pub alike-back : {ar : List ℕ} {s t : State} → Alike ar s t → Alike ar t s
-alike-back {ar} a = record {
-  size = sym (a .size);
-  constant = sym (a .constant);
-  fact = λ p os h k w. sym (a .fact p os h k (subst (λ (n : ℕ). Tuple n (getD ar p 0) os) (sym (a .size)) w));
-}
 
 pub alike-then : {ar : List ℕ} {s t u : State} → Alike ar s t → Alike ar t u → Alike ar s u
 alike-then {ar} a b = record {

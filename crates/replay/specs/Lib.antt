@@ -26,11 +26,13 @@
 --   facts-once, facts-count: none is listed twice, and they are as many as the rows that 22 counts
 --   facts-whole, facts-lent: they are whole rows, and can be lent in place of the facts of a state of as many objects
 --   reward-alike, next-alike: states that are alike have one reward, and their next states are alike
+--   large-alike: they meet 15 for the same listings
 
 -- definitions
 pub mod Replay
 pub mod Along
 -- laws
 pub mod AlikeLaws
+pub mod LargeLaws
 pub mod FactLaws
 pub mod ReplayLaws

@@ -6,17 +6,16 @@ use Prim.Native.Nat.{ℕ, zero, suc, _+_, _<_}
 use native.Mathlib.Omega.{arith}
 use native.Mathlib.Nat.{zero-add}
 use lib.ListN.{length, getD, length-append}
-use lib.Dec.{eqb}
 use borrow.Author.Tests.{eqb-true, eq-eqb, ne-eqb, ltb-true}
 use Rattle.refusal.specs.declared.Refusal.the-variants.{Weightless, Crowded, Valuations, Tally}
 use Rattle.refusal.specs.Outcome.{Outcome, ok, refused}
 use Rattle.state.specs.State.{State, Good}
-use Rattle.state.specs.Max.{Tuple, sumOf}
-use Rattle.state.specs.Lent.{factCount, stateOf, mostFacts}
+use Rattle.state.specs.Max.{sumOf}
+use Rattle.state.specs.Lent.{stateOf, mostFacts}
 use Rattle.state.specs.HighestLaws.{bound-tuple}
-use Rattle.mdp.specs.Model.{Variant, Action, Model, Every, GoodVariant, GoodAction, GoodModel}
-use Rattle.mdp.specs.Bellman.{weightIn, stateAfter, rewardIn}
-use Rattle.replay.specs.Replay.{Did, noVariant, noAction, actionOf, variantOf, Replay, inHand, begun, factsOf, stateNext, movedBy, rewardHere, isFirst, rewardMet, counted}
+use Rattle.mdp.specs.Model.{Model, Every, GoodVariant, GoodAction, GoodModel}
+use Rattle.mdp.specs.Bellman.{rewardIn}
+use Rattle.replay.specs.Replay.{Did, noVariant, noAction, actionOf, variantOf, Replay, inHand, begun, stateNext, movedBy, rewardHere, rewardMet, counted}
 use Rattle.replay.specs.Replay.{hasNoWeight, hasManyFacts, hasValuations, isTooHigh}
 use Rattle.replay.specs.Replay.{did, behind, replay, ifAccepted, acceptedOf}
 use Rattle.replay.specs.Along.{states, stateBehind, rewardsAlong, Alike, Checked, Comes, Verdict, on21, on22, on15, on23, allowed}

@@ -19,7 +19,7 @@ use Rattle.diagram.specs.Variables.{occurs, occurring, variables, minimums, isP
 use Rattle.state.specs.declared.Valued.{Valued}
 use Rattle.state.specs.declared.Valued.the-variants.{Value, Refused}
 use Rattle.state.specs.Lent.{stateOf}
-use Rattle.state.specs.State.{State, Good, meaning, value, fixed}
+use Rattle.state.specs.State.{State, Good, meaning}
 use Rattle.state.specs.Highest.{Bound, start}
 use Rattle.state.specs.HighestLaws.{start-fits}
 use Rattle.state.specs.ValueLaws.{Terms-mono}

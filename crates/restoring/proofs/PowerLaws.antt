@@ -1,11 +1,11 @@
 -- A number divided as often as k says: what is left tells whether it is the k-th power.
-use mathlib.Core.Path.{_≡_, refl, sym, ap, subst, _∙_}
-use mathlib.Core.Bool.{Bool, true, false}
+use mathlib.Core.Path.{_≡_, sym, ap, _∙_}
+use mathlib.Core.Bool.{false}
 use Prim.Native.Nat.{ℕ, zero, suc, _+_, _*_, _-_, _/_, _%_, _^_, _≤_, _<_}
 use native.Mathlib.Omega.{arith}
 use native.Mathlib.Nat.{pow-zero, pow-suc, pow-le-pow-right, div-add-mod', mul-mod-left, eq-of-mul-eq-mul-right, mul-le-mul-right, one-mul}
 use lib.Dec.{eqb}
-use borrow.Author.Tests.{eqb-true, eqb-false, eq-eqb, ne-eqb}
+use borrow.Author.Tests.{eqb-true, eqb-false, ne-eqb}
 use Rattle.basics.specs.Tests.{Flag, isTrue, isFalse, flag}
 
 one-pow : (k : ℕ) → 1 ^ k ≡ 1

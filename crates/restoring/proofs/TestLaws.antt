@@ -1,41 +1,39 @@
 -- Laws of the test, on the ways through the code.
-use mathlib.Core.Path.{_≡_, refl, sym, ap, ap₂, subst, _∙_}
+use mathlib.Core.Path.{_≡_, refl, sym, ap, _∙_}
 use mathlib.Core.Bool.{Bool, true, false, not, _&&_, _||_, cond, true≢false}
 use mathlib.Core.List.{List}
 use Prim.Native.Nat.{ℕ, _+_, _*_, _-_, _/_, _^_, _≤_, _<_}
 use native.Mathlib.Omega.{arith}
 use native.Mathlib.Nat.{mul-le-mul}
 use lib.ListN.{length, getD, take, drop}
-use lib.Dec.{eqb, ltb, leb}
+use lib.Dec.{eqb, leb}
 use borrow.Author.Tests.{le-leb, lt-leb, leb-true, leb-false, lt-ltb, eq-eqb, ne-eqb, not-true, not-false}
 use Rattle.basics.specs.Tests.{Flag, isTrue, isFalse, flag}
 use Rattle.label.specs.Limits.{constantCount, predicateCount}
 use Rattle.label.specs.Labels.{areArities}
 use Rattle.diagram.specs.Sizes.{resultWords, highestValue}
 use Rattle.diagram.specs.Words.{everyBelow}
-use Rattle.diagram.specs.Listings.{is-listing-good}
 use Rattle.listing.specs.Check.{Decides}
 use Rattle.state.specs.Lent.{factWords, isState, mostFacts, mostObjects}
-use Rattle.mdp.specs.Model.{mostTotal, mostDenominator, mostActions}
+use Rattle.mdp.specs.Model.{mostActions}
 use Rattle.mdp.specs.Backup.{mostSteps}
 use Rattle.names.specs.Layout.{nameWords}
-use Rattle.session.specs.declared.Part.{Part}
 use Rattle.session.specs.declared.Part.the-variants.{Model, Run}
 use Rattle.session.specs.Good.{mostVariantNames}
 use Rattle.declare.specs.declared.Counts.{Counts}
 use Rattle.facts.specs.declared.Live.{Live}
 use Rattle.facts.specs.Words.{part, factsBase, stateWords}
 use Rattle.model.specs.declared.Head.{Head}
-use Rattle.model.specs.Layout.{listingWords, tableWords, actionWords, variantsOf, rewardWords}
+use Rattle.model.specs.Layout.{listingWords, tableWords, actionWords, variantsOf}
 use Rattle.modelling.specs.Building.{variantsBefore, FewVariants}
 use Rattle.planner.specs.declared.Held.{Held}
 use Rattle.memory.specs.declared.Numbers.{Numbers}
-use Rattle.memory.specs.Memory.{Memory, memoryOf, Rooms}
+use Rattle.memory.specs.Memory.{memoryOf, Rooms}
 use Rattle.checking.specs.Fitting.{isValue, actionsFit}
 use Rattle.checking.specs.Lent.{Lent}
 use Rattle.checking.proofs.TestLaws.{stops, goes, refused, passed}
 use Rattle.restoring.specs.Restoring.{roomsFit, countsFit, aritiesFit, headFits, rewardFits, lastNamed, lastFits, modelFits, logFits, stateFits, runFits, partFits, isSession}
-use Rattle.restoring.specs.PartLaws.{head-is, reward-is, log-is, state-is, counts-are, arities-are, rooms-are, model-is}
+use Rattle.restoring.specs.PartLaws.{head-is, log-is, state-is, counts-are, arities-are, rooms-are, model-is}
 use Rattle.checking.specs.DecisionLaws.{decided}
 use Rattle.checking.specs.FittingLaws.{actions-are}
 

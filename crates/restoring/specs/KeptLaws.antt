@@ -1,13 +1,13 @@
 -- The test is true exactly if numbers and words are a session's.
-use mathlib.Core.Path.{_≡_, refl, sym, ap, ap₂, subst, _∙_}
-use mathlib.Core.Bool.{Bool, true, false, not}
+use mathlib.Core.Path.{_≡_, sym, ap, ap₂, subst, _∙_}
+use mathlib.Core.Bool.{true, not}
 use mathlib.Core.List.{List, [], _∷_, _++_}
 use mathlib.Core.Option.{some}
-use Prim.Native.Nat.{ℕ, zero, suc, _+_, _*_, _-_, _/_, _^_, _≤_, _<_}
+use Prim.Native.Nat.{ℕ, zero, suc, _+_, _*_, _-_, _≤_, _<_}
 use native.Mathlib.Omega.{arith}
 use lib.ListN.{length, getD, take}
-use lib.Dec.{eqb, leb}
-use borrow.Author.Tests.{eqb-true, eqb-false, ne-eqb, not-false}
+use lib.Dec.{eqb}
+use borrow.Author.Tests.{eqb-true, eqb-false, ne-eqb}
 use Rattle.basics.specs.Tests.{Flag, isTrue, isFalse, flag}
 use Rattle.basics.specs.Members.{clash}
 use Rattle.label.specs.Limits.{predicateCount}
@@ -23,24 +23,20 @@ use Rattle.names.specs.Many.{many}
 use Rattle.names.specs.ManyLaws.{length-many}
 use Rattle.names.specs.KeyLaws.{length-keys}
 use Rattle.names.specs.Layout.{constantsAt, declaredAt, actionsAt, parametersAt, variantsAt}
-use Rattle.mdp.specs.Model.{Every, GoodTruthDiagram, GoodVariant, GoodAction, GoodModel, scale}
-use Rattle.session.specs.declared.Part.the-variants.{Run}
-use Rattle.session.specs.Good.{LastAction, GoodSession, GoodTables, Agreeing, GoodParts, GoodValue}
-use Rattle.declare.specs.declared.Counts.{Counts}
+use Rattle.mdp.specs.Model.{Every, GoodTruthDiagram, GoodVariant, GoodAction, scale}
+use Rattle.session.specs.Good.{LastAction, GoodSession, GoodValue}
 use Rattle.declare.specs.Tables.{namesOf}
 use Rattle.facts.specs.Words.{liveOf}
-use Rattle.model.specs.declared.Head.{Head}
-use Rattle.model.specs.Layout.{part, actionWords, variantPlace, weightWords, spansAt, variantAt, variantsOf, actionAt, rewardWords, modelOf, tableWords, Laid}
+use Rattle.model.specs.Layout.{part, actionWords, variantPlace, weightWords, spansAt, variantAt, variantsOf, actionAt, rewardWords, modelOf}
 use Rattle.modelling.specs.Building.{truthPlace, Canonical, SpannedVariant, SpannedAction, ListedVariant, Building}
 use Rattle.modelling.specs.WordLaws.{span-count, span-start}
-use Rattle.modelling.specs.BuildingLaws.{building-laid}
 use Rattle.memory.specs.declared.Numbers.{Numbers}
 use Rattle.memory.specs.Memory.{Memory, sessionOf, Stored, Kept, Rooms}
 use Rattle.memory.specs.StoredLaws.{stored-reward}
-use Rattle.checking.specs.DecisionLaws.{decide, decided, on, both, at-most}
-use Rattle.checking.specs.FittingLaws.{IsTruth, IsValue, FitTruth, FitVariant, FitAction, actions-are}
+use Rattle.checking.specs.DecisionLaws.{on, both, at-most}
+use Rattle.checking.specs.FittingLaws.{IsValue, FitVariant, FitAction}
 use Rattle.restoring.specs.Restoring.{isSession}
-use Rattle.restoring.specs.PartLaws.{arities-long, HeadFit, RewardFit, StateFit, PartFit, ModelFit, rooms-are, head-is, reward-is, model-is, state-is, part-is}
+use Rattle.restoring.specs.PartLaws.{arities-long, StateFit, PartFit, ModelFit, rooms-are, model-is, state-is, part-is}
 
 -- ===== Lists made of a function =====
 

@@ -16,7 +16,7 @@ use Rattle.listing.specs.Check.{Decides}
 use Rattle.state.specs.Lent.{factWords, isState, mostFacts, mostObjects}
 use Rattle.names.specs.Many.{many}
 use Rattle.names.specs.ManyLaws.{length-many}
-use Rattle.mdp.specs.Model.{Action, Every, mostTotal, mostDenominator, mostActions, mostVariants}
+use Rattle.mdp.specs.Model.{Action, mostTotal, mostDenominator, mostActions, mostVariants}
 use Rattle.mdp.specs.Backup.{mostSteps}
 use Rattle.names.specs.Layout.{nameWords}
 use Rattle.session.specs.declared.Part.{Part}
@@ -32,8 +32,7 @@ use Rattle.modelling.specs.NameLaws.{variants-before}
 use Rattle.planner.specs.declared.Held.{Held}
 use Rattle.memory.specs.declared.Numbers.{Numbers}
 use Rattle.memory.specs.Memory.{Memory, Rooms}
-use Rattle.checking.specs.Fitting.{isValue}
-use Rattle.checking.specs.DecisionLaws.{decide, decided, on, both, unless, at-most, less, equal, is-true, every}
+use Rattle.checking.specs.DecisionLaws.{on, both, unless, at-most, less, equal, is-true, every}
 use Rattle.checking.specs.FittingLaws.{IsValue, value-is, FitAction, actions-are}
 use Rattle.restoring.specs.Restoring.{roomsFit, countsFit, aritiesFit, headFits, rewardFits, lastFits, modelFits, logFits, stateFits, runFits, partFits}
 

@@ -1,5 +1,5 @@
 -- Whether words are a session's: a test that computes, part by part (document 01, section 'Text').
-use mathlib.Core.Bool.{Bool, true, not, _&&_, _||_, cond}
+use mathlib.Core.Bool.{Bool, not, _&&_, _||_, cond}
 use mathlib.Core.List.{List}
 use Prim.Native.Nat.{ℕ, _+_, _*_, _-_, _/_, _^_}
 use lib.ListN.{length, getD, take}

@@ -1,4 +1,4 @@
--- What is built from a text's words: ordered and reduced, and never 11: each product of a row step is 0 or a part of the diagram, and the sum is what is written.
+-- What is built from a text's words never meets 11: each product of a row step is 0 or a part of the diagram, and the sum is what is written.
 use mathlib.Core.Path.{_≡_, refl, sym, ap, _∙_, subst}
 use mathlib.Core.Bool.{Bool, true, false, not, cond}
 use mathlib.Core.List.{List, []}
@@ -12,7 +12,7 @@ use Rattle.label.specs.Labels.{isLabel}
 use Rattle.label.specs.declared.Test.{Test}
 use Rattle.label.specs.declared.Test.the-variants.{Always, Is}
 use Rattle.diagram.specs.Sizes.{highestValue, mostRows, spaceRows, mostPairs}
-use Rattle.diagram.specs.Diagram.{Diagram, leaf, branch, eval, Ordered, Reduced}
+use Rattle.diagram.specs.Diagram.{Diagram, leaf, branch, eval, Ordered, EveryLabel}
 use Rattle.diagram.specs.Variables.{closed}
 use Rattle.diagram.specs.Listing.{Fine}
 use Rattle.diagram.specs.Rows.{onto, rows}
@@ -20,33 +20,21 @@ use Rattle.apply.specs.declared.Operation.{Operation}
 use Rattle.apply.specs.declared.Operation.the-variants.{Sum, Product}
 use Rattle.apply.specs.Apply.{apply}
 use Rattle.apply.specs.ApplyLaws.{eval-apply, ordered-apply}
-use Rattle.apply.specs.GoodLaws.{EveryLabel, every-apply, fine-calm}
+use Rattle.apply.specs.GoodLaws.{every-apply, fine-calm}
 use Rattle.apply.specs.Pairs.{pairs, pairCount, overflows}
 use Rattle.apply.specs.Combination.{operate}
 use Rattle.regression.specs.Calls.{Run, bind, form, combine}
 use Rattle.regression.specs.Result.{asked, stepped}
 use Rattle.regression.specs.Step.{testDiagram, exchanged, rowStep}
-use Rattle.regression.specs.StepLaws.{most-eval, eval-test, eval-exchanged, ordered-test, from-exchanged, every-exchanged, from-stepped, reduced-stepped}
+use Rattle.regression.specs.StepLaws.{most-eval, eval-test, eval-exchanged, ordered-test, from-exchanged, every-exchanged}
 use Rattle.reading.specs.Tree.{Reading, depth, opsOf}
 use Rattle.reading.specs.Tree.Reading.{number, branch as conditional}
 use Rattle.build.specs.Build.{meaning, readDiagram, held, rewardDiagram}
+use Rattle.build.specs.Written.{diagramFor, EachAsked, EachValue}
 use Rattle.build.specs.Machine.{mostTests, builtClosed}
 use Rattle.build.specs.MachineLaws.{built-reward}
-use Rattle.build.specs.ReadingLaws.{diagramFor, EachAsked, EachValue, eval-for, labels-for}
-use Rattle.build.specs.RegularLaws.{fine-made}
+use Rattle.build.specs.ReadingLaws.{fine-made, ordered-for, eval-for, labels-for}
 use Rattle.round_trip.specs.RoundTrip.{readingOf}
-
--- ===== Ordered and reduced =====
-
-pub ordered-for : (r : Reading) → Ordered (diagramFor r)
-unfolding diagramFor
-ordered-for (number v) = tt
-ordered-for (conditional t h f) = from-stepped 0 (testDiagram t) (diagramFor h) (diagramFor f) (ordered-test t) (ordered-for h) (ordered-for f)
-
-pub reduced-for : (r : Reading) → Reduced (diagramFor r)
-unfolding diagramFor
-reduced-for (number v) = tt
-reduced-for (conditional t h f) = reduced-stepped (testDiagram t) (diagramFor h) (diagramFor f)
 
 -- ===== Steps that never meet 11 =====
 

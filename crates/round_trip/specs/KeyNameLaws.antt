@@ -1,7 +1,7 @@
 -- The name of a name's key is the name, so a session's tables have the names as declared.
 use mathlib.Core.Path.{_≡_, refl, ap, _∙_}
 use mathlib.Core.List.{List, [], _∷_, map}
-use Prim.Native.Nat.{ℕ, zero, suc}
+use Prim.Native.Nat.{ℕ, suc}
 use native.Mathlib.Omega.{arith}
 use Rattle.words.specs.Keys.{keyOf, nameOf}
 use Rattle.words.specs.KeyLaws.{name-of}

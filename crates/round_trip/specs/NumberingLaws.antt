@@ -38,7 +38,7 @@ use Rattle.forms.specs.Tree.Atom.{equal as equality-of, holds}
 use Rattle.events.specs.Events.{diagramEvents}
 use Rattle.answers.specs.Digits.{digits}
 use Rattle.answers.specs.DigitLaws.{digits-one, digits-more, digits-read, digits-number}
-use Rattle.reading.specs.Reading.{pickKeys, Met}
+use Rattle.reading.specs.Reading.{Met}
 use Rattle.reading.specs.Numbering.{takes, isNumbered, numberOf, allNumbered, inserted as insertedKey, byNumber, variablesFirst, metFirst}
 use Rattle.line_trees.specs.TreeReading.{atomTerms, diagramTerms, termKeys}
 use Rattle.line_trees.specs.VariableLaws.{diagram-keys}
@@ -238,8 +238,8 @@ inserted-keyed x [] g h = refl
 inserted-keyed x (y ∷ ys) g h = rw (key-number x g, key-number y (h .0)) (go (ltb x y) (eqb x y) (inserted-keyed x ys g (h .1)))
   where
     go : (a b : Bool) → insertedKey (keyOf (variableName x)) (keyed ys) ≡ keyed (inserted x ys)
-        → pickKeys a (keyOf (variableName x) ∷ keyOf (variableName y) ∷ keyed ys)
-        (pickKeys b (keyOf (variableName y) ∷ keyed ys) (keyOf (variableName y) ∷ insertedKey (keyOf (variableName x)) (keyed ys)))
+        → cond a (keyOf (variableName x) ∷ keyOf (variableName y) ∷ keyed ys)
+        (cond b (keyOf (variableName y) ∷ keyed ys) (keyOf (variableName y) ∷ insertedKey (keyOf (variableName x)) (keyed ys)))
         ≡ keyed (cond a (x ∷ y ∷ ys) (cond b (y ∷ ys) (y ∷ inserted x ys)))
     go true b e = refl
     go false true e = refl

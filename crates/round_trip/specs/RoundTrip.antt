@@ -8,9 +8,9 @@ use Rattle.refusal.specs.declared.Refusal.the-variants.{Value}
 use Rattle.refusal.specs.Outcome.{ok, refused}
 use Rattle.label.specs.Limits.{firstParameter}
 use Rattle.label.specs.Labels.{predicateOf}
-use Rattle.diagram.specs.Diagram.{Diagram, leaf, branch}
+use Rattle.diagram.specs.Diagram.{Diagram, leaf, branch, EveryLabel}
 use Rattle.diagram.specs.Listing.{listing}
-use Rattle.rename.specs.Relabelling.{Labels, Terms}
+use Rattle.rename.specs.Relabelling.{Terms}
 use Rattle.label.specs.declared.Test.the-variants.{Is}
 use Rattle.words.specs.Words.{IsName}
 use Rattle.words.specs.Keys.{keyOf}
@@ -42,7 +42,7 @@ pub record Declared (n : Tables) : Type 0 where
 -- every constant and every predicate of d is declared; equality is predicate 0, and others are numbered from 1
 pub record Covers (ar : List ℕ) (n : Tables) (d : Diagram) : Type 0 where
   pub constants : Terms ar (λ t. t < firstParameter → t < length (n .constants)) d
-  pub predicates : Labels (λ l. predicateOf l ≤ length (n .predicates)) d
+  pub predicates : EveryLabel (λ l. predicateOf l ≤ length (n .predicates)) d
 
 -- 'under the same constants and predicates declared in the same order': the names on a reward line
 abbrev pub rewardNames : List ℕ → Tables → Names

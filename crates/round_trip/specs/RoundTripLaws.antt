@@ -1,8 +1,8 @@
 -- A form that is read again as a reward is the very diagram, with the very listing (document 02, L2).
-use mathlib.Core.Path.{_≡_, refl, sym, ap, _∙_, subst}
+use mathlib.Core.Path.{_≡_, refl, sym, ap, _∙_}
 use mathlib.Core.Bool.{Bool, true, false}
 use mathlib.Core.List.{List, [], _∷_}
-use Prim.Native.Nat.{ℕ, _+_, _-_, _≤_, _<_}
+use Prim.Native.Nat.{ℕ, _≤_, _<_}
 use native.Mathlib.Omega.{arith}
 use lib.ListN.{length}
 use borrow.Author.Tests.{le-leb}
@@ -10,14 +10,15 @@ use Rattle.basics.specs.Tests.{Cmp, below, equal, above, cmp}
 use Rattle.refusal.specs.Outcome.{ok}
 use Rattle.label.specs.Limits.{firstParameter, firstVariable, variableCount, minimumCount}
 use Rattle.label.specs.Labels.{isLabel, predicateOf, unpacked, termsOf}
-use Rattle.diagram.specs.Diagram.{Diagram, leaf, branch, eval, relabel, Ordered, Reduced}
+use Rattle.diagram.specs.Diagram.{Diagram, leaf, branch, eval, relabel, Ordered, Reduced, EveryLabel}
 use Rattle.diagram.specs.Listing.{listing}
 use Rattle.diagram.specs.Canonicity.{canonicity}
 use Rattle.diagram.specs.Variables.{occurs, closed}
 use Rattle.rename.specs.Ascending as S
-use Rattle.rename.specs.Relabelling.{Labels, Terms}
+use Rattle.rename.specs.Relabelling.{Terms}
 use Rattle.rename.specs.TermLaws.{each-terms, terms-each}
-use Rattle.rename.specs.VariableLaws.{occurs-terms, terms-each-occurs, fine-labels, variables-few, minimums-few}
+use Rattle.rename.specs.VariableLaws.{occurs-terms, terms-each-occurs, variables-few, minimums-few}
+use Rattle.apply.specs.GoodLaws.{fine-every}
 use Rattle.state.specs.State.{meaning, atomOf}
 use Rattle.state.specs.Terms as A
 use Rattle.regression.specs.Parameters.{Allowed}
@@ -28,14 +29,15 @@ use Rattle.reading.specs.Numbering.{rewardReading}
 use Rattle.reading.specs.Tree.{Reach, opsOf, depth, diagramReading, writing}
 use Rattle.reading.specs.TreeLaws.{reading-diagram}
 use Rattle.build.specs.Build as B
+use Rattle.build.specs.Written.{diagramFor}
 use Rattle.build.specs.Machine.{mostTests, builtClosed}
 use Rattle.build.specs.MachineLaws.{built-reward}
-use Rattle.build.specs.ReadingLaws.{diagramFor, eval-for, reward-held}
+use Rattle.build.specs.ReadingLaws.{ordered-for, reduced-for, eval-for, reward-held}
 use Rattle.session.specs.Good.{GoodValue}
 use Rattle.diagram_form.specs.Form.{Tables, formTree, openBrackets, isTooLong}
 use Rattle.round_trip.specs.RoundTrip.{Declared, Covers, rewardNames, wordsRead, readingOf, RoundTrip}
 use Rattle.diagram_form.specs.FormLaws.{Within, form-brackets, not-too-long}
-use Rattle.round_trip.specs.BuildLaws.{ordered-for, reduced-for, form-no-value}
+use Rattle.round_trip.specs.BuildLaws.{form-no-value}
 use Rattle.round_trip.specs.NumberingLaws.{variable-below, minimum-below, form-variables}
 use Rattle.round_trip.specs.NameLaws.{firstKeys, keys-length, firstMet, counted}
 use Rattle.round_trip.specs.WrittenLaws.{Known, Plain, form-good, form-resolved}
@@ -51,8 +53,8 @@ unfolding meaning relabel atomOf
 within-terms ar P (leaf v) w = tt
 within-terms ar P (branch l x y) w = (terms-each P ar l (each-all P (termsOf ar (unpacked l)) (w .0)), within-terms ar P x (w .1), within-terms ar P y (w .2))
 
-plain-labels : (ar : List ℕ) (n : Tables) (v : Reach) (d : Diagram) → Labels (λ l. isLabel ar l ≡ true) d → Terms ar (Known n v) d
-    → Labels (λ l. predicateOf l ≤ length (n .predicates)) d → Labels (Plain ar n v) d
+plain-labels : (ar : List ℕ) (n : Tables) (v : Reach) (d : Diagram) → EveryLabel (λ l. isLabel ar l ≡ true) d → Terms ar (Known n v) d
+    → EveryLabel (λ l. predicateOf l ≤ length (n .predicates)) d → EveryLabel (Plain ar n v) d
 plain-labels ar n v (leaf x) a b c = tt
 plain-labels ar n v (branch l t f) a b c = (
   record { is-label = a .0; terms = each-terms (Known n v) ar l (b .0); predicate = c .0 },
@@ -96,8 +98,8 @@ module _ (ar : List ℕ) (n : Tables) (d : Diagram) (value : GoodValue ar d) (de
       constant h (equal x) = let z = occurs-terms ar (Allowed 0) d t (within-terms ar (Allowed 0) d (value .within .terms)) o (omega arith) in absurd (omega arith)
       constant h (above x) = let z = occurs-terms ar (Allowed 0) d t (within-terms ar (Allowed 0) d (value .within .terms)) o (omega arith) in absurd (omega arith)
 
-  pub plain : Labels (Plain ar n v) d
-  plain = plain-labels ar n v d (fine-labels ar d (value .listed .fine)) (terms-each-occurs ar (Known n v) d known) (covers .predicates)
+  pub plain : EveryLabel (Plain ar n v) d
+  plain = plain-labels ar n v d (fine-every ar d (value .listed .fine)) (terms-each-occurs ar (Known n v) d known) (covers .predicates)
 
   read : Written
   read = record { met = firstMet v; operations = opsOf (readingOf d) }

@@ -1,33 +1,16 @@
 -- The round trip of a session's value diagram, under the names that its keys stand for.
 use mathlib.Core.Path.{_≡_, sym, ap, _∙_, subst}
 use mathlib.Core.Bool.{false}
-use mathlib.Core.List.{List, []}
-use Prim.Native.Nat.{ℕ}
-use Rattle.reading.specs.declared.Binding.the-variants.{Any}
 use Rattle.session.specs.declared.Part.the-variants.{Run}
 use Rattle.session.specs.Session.{Session}
-use Rattle.session.specs.Modelling.{namesFor}
 use Rattle.session.specs.Good.{GoodSession}
 use Rattle.diagram_form.specs.Form.{Tables, tablesOf, isTooLong}
-use Rattle.round_trip.specs.RoundTrip.{Declared, Covers, rewardNames, RoundTrip}
+use Rattle.round_trip.specs.RoundTrip.{Declared, Covers, RoundTrip}
 use Rattle.round_trip.specs.KeyNames.{KeysOf}
 use Rattle.round_trip.specs.KeyNameLaws.{tables-of}
 use Rattle.round_trip.specs.RoundTripLaws.{round-trip}
 
 module _ (σ : Session) (n : Tables) (declared : Declared n) (keys : KeysOf n (σ .names)) where
-  -- the names on a reward line of the session are those of its tables
-  pub reward-names : (ar : List ℕ) → rewardNames ar (tablesOf (σ .names .constants) (σ .names .predicates)) ≡ namesFor (σ .names) ar Any []
-  reward-names ar = ap (rewardNames ar) (tables-of n (σ .names) declared keys) ∙ same
-    where
-      same : rewardNames ar n ≡ namesFor (σ .names) ar Any []
-      same = λ i. record {
-        constants = sym (keys .constants) i;
-        predicates = sym (keys .predicates) i;
-        arities = ar;
-        parameters = [];
-        binding = Any;
-      }
-
   -- after (start), where 19 is not given
   pub value-round-trip : GoodSession σ → σ .part ≡ Run → Covers (σ .model .arities) n (σ .held .diagram)
       → isTooLong (σ .model .arities) (tablesOf (σ .names .constants) (σ .names .predicates)) (σ .held .diagram) ≡ false

@@ -18,10 +18,9 @@ use Rattle.label.specs.RenamingLaws.{renamed-atom, moved-renamed}
 use Rattle.label.specs.declared.Test.{Test}
 use Rattle.label.specs.declared.Test.the-variants.{Is}
 use Rattle.diagram.specs.Sizes.{highestValue}
-use Rattle.diagram.specs.Diagram.{Diagram, leaf, branch}
+use Rattle.diagram.specs.Diagram.{Diagram, leaf, branch, EveryLabel}
 use Rattle.diagram.specs.Listing.{Fine}
 use Rattle.rename.specs.Ascending as S
-use Rattle.rename.specs.Relabelling.{Labels}
 use Rattle.rename.specs.TermLaws.{each-weaken, label-terms, renamed-same}
 use Rattle.words.specs.Keys.{keyOf}
 use Rattle.names.specs.Keys.{placeOf, isAmong}
@@ -130,7 +129,7 @@ module _ (ar : List ℕ) (n : Tables) (v : Reach) (good : areArities ar ≡ true
           rw h (a .0, a .1 .0)
       go (isFalse h) = rw h (declared .predicates-named (predicateOf l - 1) (predicate-place l p h), terms-good (termsOf ar (unpacked l)) (p .terms))
 
-  pub form-good : (d : Diagram) → Labels (Plain ar n v) d → T.GoodDiagram (formTree ar n d)
+  pub form-good : (d : Diagram) → EveryLabel (Plain ar n v) d → T.GoodDiagram (formTree ar n d)
   unfolding formTree
   form-good (leaf x) p = digits-number x
   form-good (branch l t f) p = (atom-good l (p .0), form-good t (p .1), form-good f (p .2))
@@ -214,7 +213,7 @@ module _ (ar : List ℕ) (n : Tables) (v : Reach) (good : areArities ar ≡ true
           above-zero (equal x) ne = absurd (ne (sym x))
           above-zero (above x) ne = absurd (omega arith)
 
-  pub form-resolved : (d : Diagram) → Labels (Plain ar n v) d → Fine ar d
+  pub form-resolved : (d : Diagram) → EveryLabel (Plain ar n v) d → Fine ar d
       → resolveDiagram names vs (formTree ar n d) ≡ fine (record { value = readingOf d; met = vs })
   unfolding formTree readingOf
   form-resolved (leaf x) p h = rw (digits-value x (omega arith), le-leb x highestValue h)

@@ -1,9 +1,9 @@
 -- Laws of (reduce).
 use mathlib.Core.Path.{_≡_, refl, sym, ap, ap₂, subst, _∙_}
-use mathlib.Core.List.{List, _++_}
+use mathlib.Core.List.{List}
 use Prim.Native.Nat.{ℕ, _*_, _≤_}
 use native.Mathlib.Omega.{arith}
-use lib.ListN.{length, take, drop, replicate, length-replicate}
+use lib.ListN.{length, take, replicate, length-replicate}
 use Rattle.refusal.specs.declared.Refusal.{Refusal}
 use Rattle.refusal.specs.Outcome.{Outcome, ok, refused, andThen, Accepted}
 use Rattle.diagram.specs.Sizes.{resultWords}
@@ -28,7 +28,6 @@ use Rattle.steps.specs.declared.Step.the-variants.{Rows}
 use Rattle.steps.specs.Steps.{stepAs, Wrote}
 use Rattle.planner.specs.declared.Held.{Held}
 use Rattle.planner.specs.Run.{heldIn, ReplaceTask, Replaced}
-use Rattle.planner.proofs.HeldLaws.{replace-stays}
 use Rattle.memory.specs.declared.Numbers.{Numbers}
 use Rattle.memory.specs.Memory.{Memory, sessionOf, Ready, Answers}
 use Rattle.memory.specs.RunLaws.{in-run}
@@ -62,9 +61,6 @@ module _ {ar : List ℕ} {h : Held} {value work : List ℕ} (t : ReplaceTask ar 
   reduce-able n k = record { listing = t .listing; out-room = omega (arith, length-replicate {A = ℕ} n 0); work-room = t .work-room }
 
   module _ {q : Reduced} {out out′ : List ℕ} (a : Answered ar (take (h .rows * 3) value) out q out′) where
-    pub reduce-stays : {x : Refusal} → q ≡ Refused x → Replaced ar h value (reduceAnswer ar W) h value
-    reduce-stays e = replace-stays t (refused-as (reduceAnswer ar W) (sym e ∙ a .answer))
-
     pub reduce-wrote : {n : ℕ} → q ≡ Done n → Wrote ar (reduceAnswer ar W) (Rows n) out out′
     reduce-wrote e = record {
       answer = step-as (reduceAnswer ar W) (sym e ∙ a .answer);

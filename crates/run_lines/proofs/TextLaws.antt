@@ -19,7 +19,6 @@ use Rattle.text.specs.declared.Kind.the-variants as K
 use Rattle.session.specs.Session.{Session, refuseIf}
 use Rattle.session.specs.Running.{formRead}
 use Rattle.session.specs.Replies.{textSays, done}
-use Rattle.declare.specs.Tables.{namesOf}
 use Rattle.memory.specs.declared.Numbers.{Numbers}
 use Rattle.memory.specs.Memory.{Memory, sessionOf, Ready, Answers}
 use Rattle.run_lines.specs.Lines.{TextTask, TextAnswered}

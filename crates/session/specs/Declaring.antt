@@ -1,5 +1,5 @@
 -- Lines that declare names and numbers: their checks in order, and what an accepted one does (document 01, sections 'Text' and 'Refusals by trade word').
-use mathlib.Core.Bool.{Bool, true, false, not, _||_, _&&_}
+use mathlib.Core.Bool.{Bool, false, not, _||_, _&&_}
 use mathlib.Core.List.{List, [], _∷_, _++_}
 use Prim.Native.Nat.{ℕ, suc}
 use lib.ListN.{length, set}
@@ -9,8 +9,8 @@ use Rattle.label.specs.Limits.{constantCount, predicateCount, parameterCount, m
 use Rattle.words.specs.declared.Key.{Key}
 use Rattle.names.specs.Keys.{isAmong}
 use Rattle.refusal.specs.Outcome.{Outcome, ok}
-use Rattle.mdp.specs.Model.{Model, mostTotal, mostDenominator, mostActions}
-use Rattle.session.specs.Session.{Names, Singles, Session, refuseIf}
+use Rattle.mdp.specs.Model.{mostTotal, mostDenominator, mostActions}
+use Rattle.session.specs.Session.{Names, refuseIf}
 
 -- constants and predicates share one set of names
 unfoldable pub isDeclared : Names → Key → Bool

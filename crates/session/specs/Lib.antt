@@ -25,7 +25,6 @@
 --   truthRead, isSome, withTruthAt, lastTruths, lastVariant, truthsOfLast, truthsNow, withTruth, becomesLine == (becomes (p ?a ..) DIAGRAM)
 --   weightsSum, weighed, startLine == (start): 17 if an action's summed weights have over 256 paths; 13 unless each of their paths with a leaf other than W
 --       contradicts itself by equality (document 02, L5); then the run begins
---   pickOption == the first if true, else the second
 --
 -- Definitions: lines of the run
 --   cleared, objectsLine == (objects n)

@@ -1,14 +1,13 @@
 -- Lines of the model with a diagram: their checks in order, and what an accepted one does (document 01, sections 'Text' and 'Refusals by trade word').
-use mathlib.Core.Bool.{Bool, true, false, not, _||_, _&&_}
+use mathlib.Core.Bool.{Bool, true, false, not, _||_, cond}
 use mathlib.Core.List.{List, [], _∷_, _++_}
 use mathlib.Core.Option.{Option, some, none}
-use Prim.Native.Nat.{ℕ, suc, _+_}
+use Prim.Native.Nat.{ℕ, _+_}
 use lib.ListN.{length, getD}
 use lib.Dec.{ltb, leb, eqb}
 use Rattle.refusal.specs.declared.Refusal.the-variants.{Name, Truth, Space, Weights, Paths}
-use Rattle.words.specs.Keys.{keyOf}
 use Rattle.words.specs.declared.Key.{Key}
-use Rattle.names.specs.Keys.{placeOf, isAmong}
+use Rattle.names.specs.Keys.{isAmong}
 use Rattle.diagram.specs.Diagram.{Diagram, leaf}
 use Rattle.diagram.specs.Rows.{rows}
 use Rattle.apply.specs.declared.Operation.the-variants.{Sum}
@@ -19,18 +18,17 @@ use Rattle.contradiction.specs.Contradiction.{leadsTo}
 use Rattle.regression.specs.Regression.{Truths}
 use Rattle.regression.specs.RegressCall.{leafAbove}
 use Rattle.forms.specs.Tree as T
-use Rattle.events.specs.Events.{wordsEvents}
 use Rattle.events.specs.declared.Event.{Event}
 use Rattle.reading.specs.declared.Binding.{Binding}
 use Rattle.reading.specs.declared.Binding.the-variants.{Any, None, Only}
-use Rattle.reading.specs.Reading.{Names as ReadingNames, Judged, Written, arguments, reading}
+use Rattle.reading.specs.Reading.{Names as ReadingNames, Judged, arguments, reading}
 use Rattle.reading.specs.Reading.Judged.{fine, refused as judged}
 use Rattle.reading.specs.Numbering.{rewardReading}
-use Rattle.reading.specs.Head.{Head, headNumber, headArguments}
+use Rattle.reading.specs.Head.{headNumber, headArguments}
 use Rattle.build.specs.Machine.{built, builtClosed}
-use Rattle.mdp.specs.Model.{Variant, Action, Model, mostVariants}
+use Rattle.mdp.specs.Model.{Variant, Action, mostVariants}
 use Rattle.mdp.specs.Backup.{combined}
-use Rattle.session.specs.Session.{Names, Singles, Session, refuseIf}
+use Rattle.session.specs.Session.{Names, Session, refuseIf}
 
 -- all model listings together have 2,048 rows
 abbrev pub mostModelRows : ℕ
@@ -141,13 +139,9 @@ variantLine σ k es = andThen (weightRead (σ .names) (σ .model .arities) (σ .
 
 -- ===== (becomes (p ?a ..) DIAGRAM) =====
 
-abbrev pub pickOption : Bool → Option Diagram → Option Diagram → Option Diagram
-pickOption true x y = x
-pickOption false x y = y
-
 -- the truth diagrams with d for p
 unfoldable pub withTruthAt : Truths → ℕ → Diagram → Truths
-withTruthAt truths p d q = pickOption (eqb q p) (some d) (truths q)
+withTruthAt truths p d q = cond (eqb q p) (some d) (truths q)
 
 abbrev pub lastTruths : List Variant → (Truths → Truths) → List Variant
 lastTruths [] f = []

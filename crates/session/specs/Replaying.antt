@@ -1,5 +1,5 @@
 -- (did action variant object ..): its checks in order, and what an accepted one does (document 02, L10).
-use mathlib.Core.Bool.{Bool, not}
+use mathlib.Core.Bool.{not}
 use mathlib.Core.List.{List, [], _∷_, _++_}
 use Prim.Native.Nat.{ℕ, zero, suc}
 use lib.ListN.{length, take, drop}

@@ -1,15 +1,15 @@
 -- What a line is answered, and the session behind it (document 01, sections 'Text', 'Refusals by trade word' and 'A run, whole'; document 02, L1, L2, L9, L10,
 -- L11 and L13).
-use mathlib.Core.Bool.{Bool, true, false, not, _||_, _&&_}
+use mathlib.Core.Bool.{Bool, true, not, _&&_}
 use mathlib.Core.List.{List, [], _∷_, _++_}
-use Prim.Native.Nat.{ℕ, zero, suc, _^_}
+use Prim.Native.Nat.{ℕ, _^_}
 use lib.ListN.{length, getD, drop}
 use lib.Dec.{leb, eqb}
 use Rattle.refusal.specs.declared.Refusal.{Refusal}
 use Rattle.refusal.specs.declared.Refusal.the-variants.{Form, Place, Missing}
 use Rattle.diagram.specs.Rows.{rows}
 use Rattle.diagram.specs.Words.{everyBelow}
-use Rattle.refusal.specs.Outcome.{Outcome, ok, refused, andThen}
+use Rattle.refusal.specs.Outcome.{Outcome, ok, refused}
 use Rattle.cutting.specs.Cut.{diagramAnswer}
 use Rattle.mdp.specs.Model.{Action, Model, scale}
 use Rattle.mdp.specs.Runs.{Held}

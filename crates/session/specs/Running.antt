@@ -1,11 +1,10 @@
 -- (start) and the lines of the run: what their operations answer, and what an accepted one does (document 01, sections 'Text', 'Backup' and 'Cut'; document 02, L2, L9,
 -- L11 and L13).
-use mathlib.Core.Bool.{Bool, true, false, not, _&&_}
-use mathlib.Core.List.{List, [], _∷_}
-use Prim.Native.Nat.{ℕ, suc, _^_}
+use mathlib.Core.Bool.{not, _&&_}
+use mathlib.Core.List.{List, []}
+use Prim.Native.Nat.{ℕ, suc}
 use lib.ListN.{length, getD}
 use lib.Dec.{leb}
-use Rattle.refusal.specs.declared.Refusal.{Refusal}
 use Rattle.refusal.specs.declared.Refusal.the-variants.{Range, Valuations, Length}
 use Rattle.diagram.specs.Diagram.{Diagram}
 use Rattle.diagram.specs.Rows.{rows}
@@ -19,7 +18,7 @@ use Rattle.cutting.specs.declared.Cut.{Cut}
 use Rattle.cutting.specs.declared.Cut.the-variants as C
 use Rattle.cutting.specs.Cut.{diagramAnswer, cutDiagram, isTrueEdge}
 use Rattle.reduction.specs.Reduction.{reduceAnswer}
-use Rattle.mdp.specs.Model.{Model, scale}
+use Rattle.mdp.specs.Model.{Model}
 use Rattle.mdp.specs.Backup.{backup}
 use Rattle.mdp.specs.Runs.{Held, begin}
 use Rattle.best.specs.Moves.{Move}

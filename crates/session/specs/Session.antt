@@ -6,7 +6,7 @@ use lib.ListN.{replicate}
 use Rattle.refusal.specs.declared.Refusal.{Refusal}
 use Rattle.words.specs.declared.Key.{Key}
 use Rattle.label.specs.Limits.{constantCount, predicateCount, equalityArity}
-use Rattle.diagram.specs.Diagram.{Diagram, leaf}
+use Rattle.diagram.specs.Diagram.{leaf}
 use Rattle.refusal.specs.Outcome.{Outcome, refused}
 use Rattle.mdp.specs.Model.{Model}
 use Rattle.mdp.specs.Runs.{Held}

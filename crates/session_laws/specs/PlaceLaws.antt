@@ -17,7 +17,7 @@ use Rattle.session.specs.declared.Rule.{Rule}
 use Rattle.session.specs.declared.Rule.the-variants as R
 use Rattle.session.specs.Place.{ruleOf}
 use Rattle.session.specs.Session.{Session, refuseIf}
-use Rattle.session.specs.Replies.{isWhole, eachPlaced, hasObjects, isPlaced, unless, allowed}
+use Rattle.session.specs.Replies.{isWhole, hasObjects, isPlaced, unless, allowed}
 
 pub model-run : {A : Type 0} → Model ≡ Run → A
 model-run e = let z : _≡_ {A = ℕ} 0 1 = cc in absurd (omega arith)
@@ -73,19 +73,6 @@ module _ (σ : Session) where
   pub best-placed : σ .part ≡ Run → allowed σ (ruleOf K.Best (σ .part)) ≡ ok tt → isPlaced σ ≡ true
   unfolding allowed
   best-placed p a = test-passed Missing (isPlaced σ) (subst (λ q. allowed σ (ruleOf K.Best q) ≡ ok tt) p a)
-
-  pub best-allowed : σ .part ≡ Run → isPlaced σ ≡ true → allowed σ (ruleOf K.Best (σ .part)) ≡ ok tt
-  unfolding allowed
-  best-allowed p e = subst (λ q. allowed σ (ruleOf K.Best q) ≡ ok tt) (sym p) (ap (λ b. refuseIf (not b) Missing (ok tt)) e)
-
-  pub count-placed : σ .part ≡ Run → allowed σ (ruleOf K.Count (σ .part)) ≡ ok tt → eachPlaced (σ .live .placed) (length (σ .names .constants)) ≡ true
-  unfolding allowed
-  count-placed p a =
-      unless-passed (eachPlaced (σ .live .placed) (length (σ .names .constants))) (subst (λ q. allowed σ (ruleOf K.Count q) ≡ ok tt) p a)
-
-  pub count-allowed : σ .part ≡ Run → eachPlaced (σ .live .placed) (length (σ .names .constants)) ≡ true → allowed σ (ruleOf K.Count (σ .part)) ≡ ok tt
-  unfolding allowed
-  count-allowed p e = subst (λ q. allowed σ (ruleOf K.Count q) ≡ ok tt) (sym p) (ap (λ b. unless (not b)) e)
 
   pub did-placed : σ .part ≡ Run → allowed σ (ruleOf K.Did (σ .part)) ≡ ok tt → isPlaced σ ≡ true
   unfolding allowed

@@ -7,6 +7,7 @@ use native.Mathlib.Omega.{arith}
 use lib.ListN.{length}
 use lib.Dec.{eqb, ltb}
 use borrow.Author.Tests.{eqb-true, ltb-false, not-false}
+use Rattle.basics.specs.Tests.{neither}
 use Rattle.refusal.specs.declared.Refusal.the-variants.{Name, Arity, Range, Weightless, Crowded, Valuations, Tally}
 use Rattle.refusal.specs.Outcome.{ok, Accepted}
 use Rattle.refusal.specs.OutcomeLaws.{accepted-ok, accepted-cond, accepted-then}
@@ -25,7 +26,6 @@ use Rattle.session.specs.Session.{Names, Live, Session}
 use Rattle.session.specs.Replaying.{variantNames, didOf, replayIn, replayed, didTo, didLine}
 use Rattle.session.specs.Replies.{withLive}
 use Rattle.session.specs.Good.{GoodLog, GoodSession}
-use Rattle.model_laws.specs.OutcomeLaws.{neither}
 use Rattle.session_laws.specs.StateLaws.{live-good}
 use Rattle.session_laws.specs.FactLaws.{WholeRows}
 

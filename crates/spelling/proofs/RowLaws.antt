@@ -7,7 +7,7 @@ use native.Mathlib.Omega.{arith}
 use lib.ListN.{length, getD, set, length-append}
 use Rattle.label.specs.Limits.{leafMark}
 use Rattle.label.specs.Labels.{areArities, isLabel, predicateOf}
-use Rattle.diagram.specs.Diagram.{Diagram, leaf, branch}
+use Rattle.diagram.specs.Diagram.{Diagram, branch}
 use Rattle.diagram.specs.Words.{labelAt, highAt, lowAt, rowCount, isListing}
 use Rattle.diagram.specs.Listing.{diagramOf}
 use Rattle.diagram.specs.Validity.{Valid, tree}

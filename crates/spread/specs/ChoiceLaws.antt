@@ -17,7 +17,7 @@ use Rattle.label.specs.ArityLaws.{arity-most}
 use Rattle.diagram.specs.Words.{equalLists}
 use Rattle.diagram.specs.WordLaws.{lists-equal, equal-lists}
 use Rattle.diagram.specs.RowLaws.{same-tests}
-use Rattle.state.specs.Lent.{factWords, factCount, predicateAt, objectsAt, saysFact, someBelow, saidBy, stateOf, allBelow}
+use Rattle.state.specs.Lent.{factWords, factCount, predicateAt, objectsAt, saysFact, someBelow, saidBy, stateOf}
 use Rattle.state.specs.LentLaws.{some-same}
 use Rattle.spread.specs.Ground.{
   Ground,

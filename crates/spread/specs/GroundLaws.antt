@@ -2,13 +2,13 @@
 use mathlib.Core.Path.{_≡_, refl, ap, sym, subst, _∙_}
 use mathlib.Core.Bool.{Bool, true, false, _&&_, _||_}
 use mathlib.Core.List.{List, [], _∷_, _++_, map}
-use Prim.Native.Nat.{ℕ, zero, suc, pred, _+_, _*_, _^_, _≤_, _<_}
+use Prim.Native.Nat.{ℕ, zero, suc, pred, _+_, _*_, _^_, _<_}
 use native.Mathlib.Omega.{arith}
 use native.Mathlib.Nat.{pow-zero, pow-succ'}
 use lib.ListN.{length, getD, length-append}
-use lib.Dec.{eqb, ltb, leb}
-use borrow.Author.Tests.{eqb-true, eqb-false, eq-eqb, ne-eqb, ltb-true, ltb-false, lt-ltb, le-ltb}
-use Rattle.basics.specs.Tests.{Flag, isTrue, isFalse, flag, and-left, and-right, Either, one, other, either, Cmp, cmp, below, equal, above}
+use lib.Dec.{eqb, ltb}
+use borrow.Author.Tests.{eqb-true, eqb-false, eq-eqb, ne-eqb, ltb-true, lt-ltb}
+use Rattle.basics.specs.Tests.{Flag, isTrue, isFalse, flag, and-left, and-right}
 use Rattle.basics.specs.Members.{IsTest, mem, mem-append, NoDup, clash}
 use Rattle.diagram.specs.Words.{upTo, equalLists}
 use Rattle.diagram.specs.WordLaws.{lists-equal, equal-lists}

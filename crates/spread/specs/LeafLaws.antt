@@ -1,14 +1,14 @@
 -- Laws of the entries and the leaves: a value is a leaf of the diagram, so that a listing has at most 1,023 entries.
 use mathlib.Core.Path.{_≡_, refl, ap, sym, _∙_}
 use mathlib.Core.Bool.{Bool, true, false, _||_, cond}
-use mathlib.Core.List.{List, [], _∷_, _++_, map}
-use Prim.Native.Nat.{ℕ, zero, suc, _+_, _^_, _≤_, _<_}
+use mathlib.Core.List.{List, [], _∷_, map}
+use Prim.Native.Nat.{ℕ, suc, _≤_, _<_}
 use native.Mathlib.Omega.{arith}
 use lib.ListN.{length}
 use lib.Dec.{eqb}
 use borrow.Author.Tests.{eqb-true, eq-eqb}
 use Rattle.basics.specs.Tests.{Either, one, other, either, or-one, or-other}
-use Rattle.basics.specs.Members.{mem, mem-append, NoDup, Within, clash, nodup-le}
+use Rattle.basics.specs.Members.{mem, NoDup, Within, clash, nodup-le}
 use Rattle.diagram.specs.Sizes.{mostRows}
 use Rattle.diagram.specs.Diagram.{Tree, leaf, branch, Diagram, eval, relabel, same}
 use Rattle.diagram.specs.DiagramLaws.{same-eq, diagram-test}
@@ -21,11 +21,10 @@ use Rattle.diagram.specs.Listings.{is-listing-good}
 use Rattle.diagram.specs.WordLaws.{number-test}
 use Rattle.rename.specs.AscendingLaws.{ascending-nodup}
 use Rattle.state.specs.Max.{none}
-use Rattle.state.specs.State.{Atomic, State, Good, value, meaning}
+use Rattle.state.specs.State.{State, Good, value, meaning}
 use Rattle.state.specs.HighestLaws.{bound-tuple}
 use Rattle.minimum.specs.Number.{number}
 use Rattle.minimum.specs.NumberLaws.{number-is, number-attained}
-use Rattle.state.specs.Lent.{someBelow}
 use Rattle.state.specs.LentLaws.{some-found}
 use Rattle.spread.specs.Ground.{choiceState}
 use Rattle.spread.specs.Spread.{Entry, values, countOf, entries, valueIn}

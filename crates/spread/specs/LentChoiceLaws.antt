@@ -2,26 +2,25 @@
 use mathlib.Core.Path.{_≡_, refl, ap, ap₂, sym, _∙_}
 use mathlib.Core.Bool.{Bool, true, false, _&&_, _||_}
 use mathlib.Core.List.{List, [], _∷_, _++_}
-use Prim.Native.Nat.{ℕ, zero, suc, pred, _+_, _*_, _^_, _≤_, _<_}
+use Prim.Native.Nat.{ℕ, zero, suc, pred, _+_, _^_, _≤_, _<_}
 use native.Mathlib.Omega.{arith}
-use lib.ListN.{length, getD, take, drop}
-use lib.Dec.{eqb, ltb, leb}
+use lib.ListN.{length, getD, take}
+use lib.Dec.{eqb, ltb}
 use borrow.Author.Tests.{le-leb, lt-ltb, le-ltb}
-use Rattle.basics.specs.Tests.{and-left, and-right}
+use Rattle.basics.specs.Tests.{and-right}
 use Rattle.basics.specs.Members.{mem}
 use Rattle.refusal.specs.declared.Refusal.the-variants.{Ground as TooManyGround, Valuations}
 use Rattle.refusal.specs.Outcome.{ok, refused}
 use Rattle.label.specs.Limits.{mostPlaces}
-use Rattle.diagram.specs.Words.{isListing, everyBelow}
+use Rattle.diagram.specs.Words.{isListing}
 use Rattle.diagram.specs.WordLaws.{every-below}
 use Rattle.diagram.specs.Sizes.{mostRows}
 use Rattle.state.specs.Max.{sumOf}
 use Rattle.state.specs.State.{Good}
-use Rattle.state.specs.Lent.{factWords, factCount, predicateAt, objectsAt, allBelow, namesBelow, constantsBelow, isState, stateOf, someBelow}
-use Rattle.elimination.specs.Answer.{isTooLarge}
+use Rattle.state.specs.Lent.{factCount, predicateAt, objectsAt, allBelow, namesBelow, constantsBelow, isState}
 use Rattle.elimination.specs.AnswerLaws.{lent-good}
 use Rattle.spread.specs.Ground.{mostGround, Ground, ground, sameGround, groundFacts, isGround, groundCount, bits, chosen, rowOf, rowsOf, lentChoice, choiceState}
-use Rattle.spread.specs.Spread.{Entry, entries, valueIn, entriesOf, someTooLarge, spread}
+use Rattle.spread.specs.Spread.{valueIn, entriesOf, someTooLarge, spread}
 use Rattle.spread.specs.SpreadLaws.{entries-sum}
 use Rattle.spread.specs.GroundLaws.{ground-test, mem-ground}
 use Rattle.spread.specs.ChoiceLaws.{Shaped, AllShaped, FewPlaces, chosen-within, rows-count, row-objects, row-later, shaped}

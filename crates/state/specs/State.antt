@@ -1,13 +1,13 @@
 -- Atomic formulas, states, and what a diagram says in one (document 01, section 'States and value').
 use mathlib.Core.Path.{_≡_}
 use mathlib.Core.List.{List, [], _∷_, map}
-use mathlib.Core.Bool.{Bool, true, false, cond}
+use mathlib.Core.Bool.{Bool, false, cond}
 use Prim.Native.Nat.{ℕ, zero, suc, _-_, _<_}
 use lib.ListN.{getD}
 use lib.Dec.{ltb, eqb}
 use Rattle.label.specs.Limits.{firstParameter, firstVariable}
 use Rattle.label.specs.Labels.{predicateOf, unpacked, termsOf}
-use Rattle.diagram.specs.Diagram.{Tree, leaf, Diagram, eval, relabel}
+use Rattle.diagram.specs.Diagram.{Tree, Diagram, eval, relabel}
 
 -- an atomic formula: a predicate and its terms. A term is its number: constants first, then parameters, then variables, then minimum
 -- variables (document 02, L12). In this crate a variable is one of either kind: every term from the first variable on.

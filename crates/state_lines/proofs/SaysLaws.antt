@@ -21,29 +21,15 @@ use Rattle.facts.specs.declared.Live.{Live}
 use Rattle.facts.specs.declared.Told.{Told}
 use Rattle.facts.specs.declared.Told.the-variants.{Done, Refused}
 use Rattle.facts.specs.declared.Tuple.{Tuple}
-use Rattle.facts.specs.Words.{liveOf, GoodLive, Lives, Living, TupleOf, Telling}
+use Rattle.facts.specs.Words.{liveOf, Lives, Living, TupleOf, Telling}
 use Rattle.memory.specs.declared.Numbers.{Numbers}
-use Rattle.memory.specs.Memory.{memoryOf, sessionOf, Stored, Answers}
+use Rattle.memory.specs.Memory.{memoryOf, sessionOf, Stored, Answers, withState}
+use Rattle.memory.specs.StoredLaws.{stored-state}
 use Rattle.memory.specs.WordLaws.{first-is, second-is, rest-is}
 use Rattle.memory.specs.QuietLaws.{quiet-refused, quiet-done}
-use Rattle.state_lines.specs.Lines.{withState, ObjectsSays, IsSays, TrueSays}
+use Rattle.state_lines.specs.Lines.{ObjectsSays, IsSays, TrueSays}
 
 -- ===== Any line of the state =====
-
--- words that have their room still have it, with another state
-stored-state : {n : Numbers} {names ar ls tb st v : List ℕ} (st′ : List ℕ) (l : Live)
-    → Stored n (memoryOf names ar ls tb st v) → GoodLive st′ l → Stored (withState n l) (memoryOf names ar ls tb st′ v)
-stored-state st′ l g h = record {
-  vocabulary = g .vocabulary;
-  building = g .building;
-  listing-room = g .listing-room;
-  whole = g .whole;
-  reward = g .reward;
-  live = h;
-  value-room = g .value-room;
-  value-rows = g .value-rows;
-  holding = λ e. record { reward = g .holding e .reward; listing = g .holding e .listing; steps = g .holding e .steps; power = g .holding e .power };
-}
 
 module _ {k : Kind} {s : List ℕ} {number : ℕ} {n : Numbers} {names ar ls tb st v : List ℕ} (o : Outcome SessionLive)
     (e : done (sessionOf n (memoryOf names ar ls tb st v)) number k (wordsOf k s)

@@ -6,24 +6,10 @@ use lib.ListN.{length}
 use Rattle.text.specs.declared.Kind.the-variants.{Objects, Is, True}
 use Rattle.events.specs.Events.{firstWord}
 use Rattle.declare.specs.Tables.{GoodNames, GoodVocabulary}
-use Rattle.facts.specs.declared.Live.{Live}
 use Rattle.facts.specs.Words.{stateWords, mostBytes, GoodLive}
 use Rattle.memory.specs.declared.Numbers.{Numbers}
 use Rattle.memory.specs.declared.Said.{Said}
 use Rattle.memory.specs.Memory.{memoryOf, Ready, Answers}
-
--- the numbers with another state
-abbrev pub withState : Numbers → Live → Numbers
-withState n l = record {
-  part = n .part;
-  total = n .total;
-  discount = n .discount;
-  reward = n .reward;
-  counts = n .counts;
-  head = n .head;
-  live = l;
-  held = n .held;
-}
 
 -- ===== (objects n) =====
 

@@ -1,32 +1,10 @@
 // Lines of the state: from the bytes of a line that stands where it may to the session behind it and the answer.
 use answers::Answer;
-use facts::Live;
 use facts::Told;
 use memory::Numbers;
 use memory::Said;
 use text::Kind;
-ghost use mathlib.Core.Path.{_≡_};
-ghost use Rattle.state_lines.specs.Lines.{withState, ForObjects, ObjectsSays, ForIs, IsSays, ForTrue, TrueSays};
-
-// The numbers with another state.
-fn with_state(n: Numbers, live: Live) -> Numbers
-    ensures { λ r. ⌜ r ≡ withState n live ⌝ }
-{
-    let part = n.part;
-    let counts = n.counts;
-    let head = n.head;
-    let held = n.held;
-    Numbers {
-        part: part,
-        total: n.total,
-        discount: n.discount,
-        reward: n.reward,
-        counts: counts,
-        head: head,
-        live: live,
-        held: held,
-    }
-}
+ghost use Rattle.state_lines.specs.Lines.{ForObjects, ObjectsSays, ForIs, IsSays, ForTrue, TrueSays};
 
 // (objects n)
 pub fn objects(line: &[u8], number: u64, n: Numbers, state: &mut [u64]) -> Said
@@ -38,7 +16,7 @@ pub fn objects(line: &[u8], number: u64, n: Numbers, state: &mut [u64]) -> Said
     let count = events::number_in(event);
     match facts::objects(state, count) {
         Told::Done(live) => Said {
-            numbers: with_state(n, live),
+            numbers: memory::with_state(n, live),
             answer: Answer::Nothing,
         },
         Told::Refused(why) => Said {
@@ -61,7 +39,7 @@ pub fn is(line: &[u8], number: u64, n: Numbers, names: &[u64], state: &mut [u64]
     let object = events::number_in(word);
     match facts::place(names, n.counts, state, n.live, key, object) {
         Told::Done(live) => Said {
-            numbers: with_state(n, live),
+            numbers: memory::with_state(n, live),
             answer: Answer::Nothing,
         },
         Told::Refused(why) => Said {
@@ -100,7 +78,7 @@ pub fn tell(
         &mut row,
     ) {
         Told::Done(live) => Said {
-            numbers: with_state(n, live),
+            numbers: memory::with_state(n, live),
             answer: Answer::Nothing,
         },
         Told::Refused(why) => Said {

@@ -1,6 +1,5 @@
 -- Laws of `carry` and `load`.
-use mathlib.Core.Bool.{true, false}
-use mathlib.Core.Path.{_≡_, refl, sym, ap, ap₂, subst, _∙_}
+use mathlib.Core.Path.{_≡_, refl, sym, ap, subst, _∙_}
 use mathlib.Core.List.{List, [], _∷_, _++_, map}
 use Prim.Native.Nat.{ℕ, zero, suc, pred, _+_, _*_, _/_, _<_, _≤_, zero-le}
 use native.Mathlib.Numerals.{add-one}
@@ -12,22 +11,20 @@ use lib.Dec.{eqb}
 use mir.Val.{Fits}
 use mir.Syntax.{w16}
 use Rattle.basics.specs.Tests.{Flag, isTrue, isFalse, flag, Cmp, cmp, below, equal, above}
-use Rattle.basics.specs.Members.{mem}
-use Rattle.label.specs.Limits.{leafMark, predicateCount}
+use Rattle.label.specs.Limits.{leafMark}
 use Rattle.label.specs.Labels.{packed}
 use Rattle.label.specs.Renamings.{mapOf, renamed}
-use Rattle.label.specs.Callers.{TermMap, Movable, Packable}
+use Rattle.label.specs.Callers.{Movable, Packable}
 use Rattle.label.proofs.CodeLaws.{replaced-is, under-all}
 use Rattle.label.specs.declared.Atom.{Atom}
 use Rattle.table.specs.declared.Row.{Row as TableRow}
 use Rattle.diagram.specs.Sizes.{mostRows, spaceRows}
-use Rattle.diagram.specs.Diagram.{Diagram, leaf, branch, same, relabel}
-use Rattle.diagram.specs.Rows.{onto, rows}
-use Rattle.diagram.specs.Words.{labelAt, highAt, lowAt, rowCount, upTo, isListing}
+use Rattle.diagram.specs.Diagram.{Diagram, relabel}
+use Rattle.diagram.specs.Rows.{rows}
+use Rattle.diagram.specs.Words.{labelAt, highAt, lowAt, rowCount, upTo}
 use Rattle.diagram.specs.WordLaws.{map-snoc}
-use Rattle.diagram.specs.Listing.{index, diagramOf}
+use Rattle.diagram.specs.Listing.{diagramOf}
 use Rattle.diagram.specs.Validity.{Valid, BranchRow, tree}
-use Rattle.diagram.specs.RowLists.{rowTree, Written}
 use Rattle.diagram.specs.RowLaws.{kept-index-is}
 use Rattle.diagram.specs.RowDiagrams.{branch-row}
 use Rattle.diagram.specs.DiagramOfListing.{valid-rows, shown-rows, diagram-is, rows-are}
@@ -38,12 +35,11 @@ use Rattle.apply.specs.FormedLaws.{add-mem, add-begins}
 use Rattle.store.specs.declared.Formed.{Formed}
 use Rattle.store.specs.declared.Formed.the-variants.{Row, Full}
 use Rattle.store.specs.Space.{diagramsOf, Holds, standsFor, Formable, a-leaf, a-branch, Formation, addAll}
-use Rattle.store.specs.AddLaws.{add-all-none, add-all-snoc, add-all-more, add-all-relabelled}
+use Rattle.store.specs.AddLaws.{add-all-none, add-all-snoc, add-all-more}
 use Rattle.store.specs.Load.{carried, renamedOf, Carriable, Loadable, Loaded}
 use Rattle.store.proofs.SpaceLaws.{
   length-diagrams,
   diagram-at,
-  written-diagrams,
   stands-leaf,
   stands-branch,
   formed-room,
@@ -51,7 +47,6 @@ use Rattle.store.proofs.SpaceLaws.{
   formation-tree,
   formation-old,
   full-more,
-  holds-closed,
 }
 
 -- a renamed label is a label's number
@@ -83,9 +78,6 @@ module _ {ar ws ts numbers : List ℕ} {k : ℕ} (c : Carriable ar ws ts numbers
   the-branch : (getD ws (k * 3) 0 ≡ leafMark → ⊥) → BranchRow ar ws k
   unfolding labelAt
   the-branch e = branch-row ar ws (rowCount ws) (valid-rows ar ws valid) k (c .within) e
-
-  pub carry-room : k * 3 + 3 ≤ length ws
-  carry-room = omega (arith, c .within)
 
   pub carry-leaf : getD ws (k * 3) 0 ≡ leafMark
       → _≡_ {A = TableRow} (record { label = getD ws (k * 3) 0; high = getD ws (k * 3 + 1) 0; low = 0 }) (carried ar ws ts numbers k)
@@ -295,11 +287,3 @@ module _ {ar ws ts s₀ heads₀ links₀ numbers₀ : List ℕ} {count : ℕ} (
           let r = g .last (pred (rowCount ws)) (omega (arith, is-k, some)) in
           let e = g .each (pred (rowCount ws)) (omega (arith, is-k, some)) in
           rw (r, diagram-is ar ws good) e
-
--- what `load` ensures, where the map keeps the listing's rows apart and in order: the renamed diagram is put onto the rows
-pub loaded-onto : {ar ws ts s heads links : List ℕ} {count : ℕ} {r : Formed} {s′ heads′ links′ numbers′ : List ℕ} → Holds s heads links count
-    → Loaded ar ws ts s count r s′ heads′ links′ numbers′ → rows (renamedOf ar ts (diagramOf ws)) ≡ map (renamedOf ar ts) (rows (diagramOf ws))
-    → Formation (renamedOf ar ts (diagramOf ws)) (onto (renamedOf ar ts (diagramOf ws)) (diagramsOf s count)) r s′ heads′ links′
-loaded-onto {ar} {ws} {ts} {s} {heads} {links} {count} {r} {s′} {heads′} {links′} h l e =
-    subst (λ (rs : List Diagram). Formation (renamedOf ar ts (diagramOf ws)) rs r s′ heads′ links′)
-    (add-all-relabelled (renamed ar (mapOf ts)) (diagramOf ws) (diagramsOf s count) (holds-closed h) e) (l .formation)

@@ -3,22 +3,20 @@ use mathlib.Core.Bool.{true, false, cond}
 use mathlib.Core.Path.{_≡_, refl, sym, ap, ap₂, subst, _∙_}
 use mathlib.Core.List.{List, [], _∷_, _++_, map}
 use Prim.Native.Nat.{ℕ, zero, suc, _+_, _-_, _*_, _<_, _≤_}
-use native.Mathlib.Numerals.{add-one}
 use native.Mathlib.Omega.{arith}
 use borrow.Author.Tests.{eq-eqb, ne-eqb, le-leb, lt-leb, leb-true, leb-false}
 use lib.ListN.{length, getD, take, length-append, length-map, List·getD-append}
 use lib.Seq.{take-all, take-append-le, getD-at}
-use lib.Dec.{eqb, leb, lit≤}
+use lib.Dec.{leb, lit≤}
 use Rattle.basics.specs.Tests.{Flag, isTrue, isFalse, flag}
 use Rattle.basics.specs.Members.{mem}
 use Rattle.label.specs.Limits.{leafMark}
 use Rattle.table.specs.declared.Row.{Row as TableRow}
-use Rattle.table.specs.declared.Found.{Found}
 use Rattle.table.specs.declared.Found.the-variants.{At, Nothing}
 use Rattle.table.specs.declared.Added.{Added}
 use Rattle.table.specs.declared.Added.the-variants.{Old, New, Full as NoRoom}
 use Rattle.table.specs.Rows.{rowAt, rows, sameRow, firstFrom, firstIn}
-use Rattle.table.specs.Table.{mostRows, Table, Clean, addRows, AddPost}
+use Rattle.table.specs.Table.{Table, Clean, addRows, AddPost}
 use Rattle.table.proofs.RowLaws.{row-ext, same-true, length-rows, getD-rows, none-found}
 use Rattle.table.proofs.TableLaws.{case-old, case-new, case-full, empty}
 use Rattle.diagram.specs.Sizes.{spaceRows}
@@ -41,7 +39,7 @@ use Rattle.apply.specs.FormedLaws.{add-old, add-new}
 use Rattle.store.specs.declared.Formed.{Formed}
 use Rattle.store.specs.declared.Formed.the-variants.{Row, Full}
 use Rattle.store.specs.AddLaws.{kept-closed}
-use Rattle.store.specs.Space.{diagramsOf, Holds, standsFor, Formable, a-leaf, a-branch, Children, formAnswer, rowsThen, Formation}
+use Rattle.store.specs.Space.{diagramsOf, Holds, standsFor, Formable, a-leaf, a-branch, Children, formAnswer, Formation}
 
 -- the diagrams of the rows, by number
 map-same : (f g : ℕ → Diagram) (n : ℕ) → ((k : ℕ) → k < n → f k ≡ g k) → map f (upTo n) ≡ map g (upTo n)

@@ -1,6 +1,6 @@
 -- Laws of `addAll`: it only adds, and the rows of a diagram added one by one are the diagram put onto the rows.
 use mathlib.Core.Path.{_≡_, refl, ap, sym, _∙_}
-use mathlib.Core.Bool.{true, false}
+use mathlib.Core.Bool.{true}
 use mathlib.Core.List.{List, [], _∷_, _++_, map}
 use Prim.Native.Nat.{ℕ}
 use Rattle.basics.specs.Tests.{Flag, isTrue, isFalse, flag, Either, one, other, either}
@@ -11,8 +11,6 @@ use Rattle.diagram.specs.DiagramLaws.{same-eq, diagram-test, onto-old, onto-lea
 use Rattle.diagram.specs.RowLists.{Kept}
 use Rattle.diagram.specs.RowLaws.{kept-children}
 use Rattle.apply.specs.Snoc.{Begins, begins-refl, begins-trans, mem-begins}
-use Rattle.apply.specs.Apply.{node}
-use Rattle.apply.specs.ApplyLaws.{node-same, node-differ}
 use Rattle.apply.specs.Formed.{add, ClosedRows}
 use Rattle.apply.specs.FormedLaws.{add-old, add-new, add-mem, add-begins, add-leaf}
 use Rattle.apply.specs.RowLaws.{onto-fresh, onto-closed, rows-onto}
@@ -66,14 +64,6 @@ onto-children l t f rs c p q =
     let a = onto-old t rs p in
     let b = onto-old f rs q in
     ap (add (branch l t f)) (sym (ap (onto f) a ∙ b)) ∙ add-branch l t f rs c
-
-pub onto-node : (l : ℕ) (t f : Diagram) (rs : List Diagram) → ClosedRows rs → mem same t rs ≡ true → mem same f rs ≡ true
-    → add (node l t f) rs ≡ onto (node l t f) rs
-onto-node l t f rs c p q = go (flag (same t f))
-  where
-    go : Flag (same t f) → add (node l t f) rs ≡ onto (node l t f) rs
-    go (isTrue e) = rw (node-same l t f e, add-old t rs p, onto-old t rs p)
-    go (isFalse e) = rw (node-differ l t f e) (onto-children l t f rs c p q)
 
 -- the rows that a walk finishes, added one by one
 pub add-all-onto : (d : Diagram) (rs done : List Diagram) → ClosedRows (addAll rs done) → addAll rs (onto d done) ≡ onto d (addAll rs done)

@@ -13,7 +13,7 @@ use Rattle.table.specs.declared.Row.{Row as TableRow}
 use Rattle.diagram.specs.Diagram.{Diagram, relabel}
 use Rattle.diagram.specs.Rows.{rows}
 use Rattle.diagram.specs.Words.{labelAt, highAt, lowAt, rowCount, isListing}
-use Rattle.diagram.specs.Listing.{index, diagramOf}
+use Rattle.diagram.specs.Listing.{diagramOf}
 use Rattle.diagram.specs.Validity.{tree}
 use Rattle.store.specs.declared.Formed.{Formed}
 use Rattle.store.specs.declared.Formed.the-variants.{Row}

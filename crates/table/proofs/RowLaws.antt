@@ -1,5 +1,5 @@
 -- Laws of rows in a flat list of words, and of the search for a row.
-use mathlib.Core.Bool.{Bool, true, false, _&&_}
+use mathlib.Core.Bool.{Bool, true, false, _&&_, cond}
 use mathlib.Core.Path.{_≡_, refl, sym, ap, subst, _∙_}
 use mathlib.Core.Logic.{⊎-elim}
 use mathlib.Core.List.{List, [], _∷_, _++_}
@@ -15,7 +15,7 @@ use Rattle.basics.specs.Tests.{and-left, and-right}
 use Rattle.basics.specs.Members.{clash}
 use Rattle.table.specs.declared.Row.{Row}
 use Rattle.table.specs.declared.Found.the-variants.{At, Nothing}
-use Rattle.table.specs.Rows.{rowAt, putAt, rows, sameRow, pickFound, firstFrom, firstIn}
+use Rattle.table.specs.Rows.{rowAt, putAt, rows, sameRow, firstFrom, firstIn}
 
 pub row-ext : (x y : Row) → x .label ≡ y .label → x .high ≡ y .high → x .low ≡ y .low → x ≡ y
 row-ext x y p q r = λ i. record { label = p i; high = q i; low = r i }
@@ -151,9 +151,9 @@ missed d k (x ∷ xs) r e j h p = go (sameRow x r) refl (missed d (suc k) xs r) 
   where
     go : (b : Bool) → sameRow x r ≡ b → (firstFrom (suc k) xs r ≡ Nothing → (j : ℕ) → j < length xs → getD xs j d ≡ r → ⊥)
         → (j : ℕ) → j < suc (length xs) → getD (x ∷ xs) j d ≡ r → ⊥
-    go true q ih j h p = not-at (sym (ap (λ (b : Bool). pickFound b (At k) (firstFrom (suc k) xs r)) q) ∙ e)
+    go true q ih j h p = not-at (sym (ap (λ (b : Bool). cond b (At k) (firstFrom (suc k) xs r)) q) ∙ e)
     go false q ih zero h p = same-false x r q p
-    go false q ih (suc j) h p = ih (sym (ap (λ (b : Bool). pickFound b (At k) (firstFrom (suc k) xs r)) q) ∙ e) j (le-of-suc-le-suc h) p
+    go false q ih (suc j) h p = ih (sym (ap (λ (b : Bool). cond b (At k) (firstFrom (suc k) xs r)) q) ∙ e) j (le-of-suc-le-suc h) p
 
 pub none-found : (s : List ℕ) (n : ℕ) (r : Row) → firstIn (rows s n) r ≡ Nothing → (j : ℕ) → j < n → rowAt s j ≡ r → ⊥
 unfolding firstIn

@@ -1,5 +1,5 @@
 -- Laws of the hash index: the walk of a bucket's chain, what adding a row keeps, and clearing.
-use mathlib.Core.Bool.{Bool, true, false}
+use mathlib.Core.Bool.{Bool, true, false, cond}
 use mathlib.Core.Path.{_≡_, refl, sym, ap, subst, _∙_}
 use mathlib.Core.Logic.{_⊎_, inl, inr, ⊎-elim}
 use mathlib.Core.List.{List, [], _∷_, _++_}
@@ -19,7 +19,7 @@ use Rattle.table.specs.declared.Added.the-variants.{Old, New, Full}
 use Rattle.table.specs.Rows.{rowAt, putAt, rows, firstIn, sameRow}
 use Rattle.table.specs.Chains.{prev}
 use Rattle.table.specs.ChainLaws.{test, prev-zero, prev-same, prev-other, prev-le, prev-gap, prev-hits, prev-none, prev-ext}
-use Rattle.table.specs.Table.{buckets, mostRows, hashOf, hashAt, Table, Addable, Touched, Clean, addAnswer, addRows, addWhere, pickAdded, AddPost}
+use Rattle.table.specs.Table.{buckets, mostRows, hashOf, hashAt, Table, Addable, Touched, Clean, addAnswer, addRows, addWhere, AddPost}
 use Rattle.table.proofs.RowLaws.{found-at, found-none, put-other, put-same, length-put, length-rows, rows-put, drop-put, none-found, said-same, said-other}
 
 -- the walk of a chain for the row r: the rows at or above `at` are passed, and `at` is 0 or one more than a place in r's bucket
@@ -148,7 +148,7 @@ module _ (s heads links : List ℕ) (limit count : ℕ) (t : Table s heads links
 -- what each answer of `find_or_add` tells its caller
 module _ (limit : ℕ) (xs : List Row) (r : Row) where
   full? : Bool → Added
-  full? b = pickAdded b Full (New (length xs))
+  full? b = cond b Full (New (length xs))
 
   old-is : (i : ℕ) → Old i ≡ addAnswer limit xs r → firstIn xs r ≡ At i
   unfolding addAnswer full?

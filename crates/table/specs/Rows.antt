@@ -1,5 +1,5 @@
 -- Rows of three words in a flat list of words (document 01, Terms, labels, listings), and the search for a row in a list of rows.
-use mathlib.Core.Bool.{Bool, true, false, _&&_}
+use mathlib.Core.Bool.{Bool, _&&_, cond}
 use mathlib.Core.List.{List, [], _∷_, _++_}
 use Prim.Native.Nat.{ℕ, zero, suc, _+_, _*_}
 use lib.ListN.{getD, set}
@@ -25,14 +25,10 @@ rows s (suc n) = rows s n ++ (rowAt s n ∷ [])
 unfoldable pub sameRow : Row → Row → Bool
 sameRow x y = eqb (x .label) (y .label) && (eqb (x .high) (y .high) && eqb (x .low) (y .low))
 
-abbrev pub pickFound : Bool → Found → Found → Found
-pickFound true x y = x
-pickFound false x y = y
-
 -- the index of the first row equal to r, counted from k
 unfoldable pub firstFrom : ℕ → List Row → Row → Found
 firstFrom k [] r = Nothing
-firstFrom k (x ∷ xs) r = pickFound (sameRow x r) (At k) (firstFrom (suc k) xs r)
+firstFrom k (x ∷ xs) r = cond (sameRow x r) (At k) (firstFrom (suc k) xs r)
 
 unfoldable pub firstIn : List Row → Row → Found
 firstIn xs r = firstFrom 0 xs r

@@ -1,6 +1,6 @@
 -- The unique table (document 01, Combination: "a working space of 2,048 rows, equal ones counted once"): rows with a hash index over them,
 -- and what finding or adding a row answers.
-use mathlib.Core.Bool.{Bool, true, false}
+use mathlib.Core.Bool.{cond}
 use mathlib.Core.Path.{_≡_}
 use mathlib.Core.List.{List, [], _∷_, _++_}
 use Prim.Native.Nat.{ℕ, _+_, _*_, _/_, _%_, _<_, _≤_}
@@ -67,19 +67,11 @@ pub record Clean (heads : List ℕ) : Type 0 where
   pub slots : buckets ≤ length heads
   pub zeros : (b : ℕ) → b < buckets → getD heads b 0 ≡ 0
 
-abbrev pub pickAdded : Bool → Added → Added → Added
-pickAdded true x y = x
-pickAdded false x y = y
-
-abbrev pub pickRows : Bool → List Row → List Row → List Row
-pickRows true x y = x
-pickRows false x y = y
-
 -- what finding or adding the row r in the rows xs, of which there may be `limit`, answers: the place where the row stood, or stands now,
 -- or that there is no room (document 01, Combination: refusal 9)
 abbrev pub addWhere : ℕ → List Row → Found → Added
 addWhere limit xs (At i) = Old i
-addWhere limit xs Nothing = pickAdded (eqb (length xs) limit) Full (New (length xs))
+addWhere limit xs Nothing = cond (eqb (length xs) limit) Full (New (length xs))
 
 unfoldable pub addAnswer : ℕ → List Row → Row → Added
 addAnswer limit xs r = addWhere limit xs (firstIn xs r)
@@ -87,7 +79,7 @@ addAnswer limit xs r = addWhere limit xs (firstIn xs r)
 -- the rows then
 abbrev pub rowsWhere : List Row → Row → ℕ → Found → List Row
 rowsWhere xs r limit (At i) = xs
-rowsWhere xs r limit Nothing = pickRows (eqb (length xs) limit) xs (xs ++ (r ∷ []))
+rowsWhere xs r limit Nothing = cond (eqb (length xs) limit) xs (xs ++ (r ∷ []))
 
 unfoldable pub addRows : ℕ → List Row → Row → List Row
 addRows limit xs r = rowsWhere xs r limit (firstIn xs r)

@@ -1,6 +1,6 @@
 -- The weights and truth diagrams behind the lines of a text are those that its accepted (variant ..) and (becomes ..) lines draw (document 01, section 'Text'; document 02, L10).
 use mathlib.Core.Path.{_≡_, refl, sym, ap, ap₂, subst, fun-ext, _∙_}
-use mathlib.Core.Bool.{Bool, true, false}
+use mathlib.Core.Bool.{Bool, true, false, cond}
 use mathlib.Core.List.{List, [], _∷_, _++_, map, append-nil, append-assoc}
 use mathlib.Core.Option.{Option, some, none}
 use Prim.Native.Nat.{ℕ, suc, _<_}
@@ -23,7 +23,7 @@ use Rattle.events.specs.Events.{diagramEvents, wordsEvents}
 use Rattle.events.specs.Contents.{keysIn}
 use Rattle.events.specs.LineEvents.{line-events}
 use Rattle.session.specs.Session.{Session, opening}
-use Rattle.session.specs.Modelling.{weightRead, addVariant, noTruths, pickOption, withTruthAt, lastTruths, lastVariant}
+use Rattle.session.specs.Modelling.{weightRead, addVariant, noTruths, withTruthAt, lastTruths, lastVariant}
 use Rattle.session.specs.Replies.{Reply, wordsOf, reply}
 use Rattle.session.specs.Texts.{hasBytes, Progress, replied, afterLine, afterLines, beginning}
 use Rattle.session_laws.specs.TextReplies.{replies}
@@ -46,7 +46,7 @@ else-none : (x : Option Diagram) → orElse x none ≡ x
 else-none none = refl
 else-none (some d) = refl
 
-else-more : (x : Option Diagram) (b : Bool) (d : Diagram) (z : Option Diagram) → orElse x (pickOption b (some d) z) ≡ orElse (orElse x (ifSo b d)) z
+else-more : (x : Option Diagram) (b : Bool) (d : Diagram) (z : Option Diagram) → orElse x (cond b (some d) z) ≡ orElse (orElse x (ifSo b d)) z
 else-more none true d z = refl
 else-more none false d z = refl
 else-more (some c) b d z = refl

@@ -6,7 +6,7 @@ use Prim.Native.Nat.{ℕ, suc}
 use lib.ListN.{length, getD}
 use lib.Dec.{eqb, leb}
 use borrow.Author.Tests.{ltb-true}
-use Rattle.basics.specs.Tests.{and-right}
+use Rattle.basics.specs.Tests.{and-right, only-first}
 use Rattle.basics.specs.Members.{clash}
 use Rattle.refusal.specs.declared.Refusal.the-variants.{Name, Arity, Range, Space}
 use Rattle.refusal.specs.Outcome.{ok, Accepted}
@@ -117,14 +117,6 @@ objects-effect n l e =
     accepted-cond {P = λ (z : Live). (z .count ≡ 0) × (z .total ≡ 0)} (not (leb 1 n && leb n _)) Range _ (λ d. accepted-ok (refl, refl)) .given l e
 
 -- (is c o): the constant is declared, and was not placed
-or-left : (a b : Bool) → (not a || b) ≡ false → a ≡ true
-or-left true b e = refl
-or-left false b e = sym e
-
-or-right : (a b : Bool) → (not a || b) ≡ false → b ≡ false
-or-right true b e = e
-or-right false b e = clash refl e
-
 is-effect : (σ : Session) (k : Key) (o : ℕ) (l : Live) → isLine (σ .names) (σ .live) k o ≡ ok l
     → (isPlaced σ ≡ true → ⊥) × (l .count ≡ σ .live .count) × (l .total ≡ σ .live .total)
 unfolding isLine placed isAmong
@@ -137,7 +129,7 @@ is-effect σ k o l e =
     accepted-ok (
       (λ h.
           let all = and-right (hasObjects σ) _ h in
-          clash (below-every (length n) (λ c. eqb (getD (σ .live .placed) c 0) 1) i all (ltb-true i (length n) (or-left (isAmong k n) _ d))) (or-right (isAmong k n) _ d)),
+          clash (below-every (length n) (λ c. eqb (getD (σ .live .placed) c 0) 1) i all (ltb-true i (length n) (only-first (isAmong k n) _ d .0))) (only-first (isAmong k n) _ d .1)),
       refl,
       refl,
     ))) .given l e

@@ -51,7 +51,6 @@
 --   may-did, did-may: it is accepted exactly if MayDid, and MovesOn; text-did, text-may: so behind any lines
 --   text-undeclared, next-undeclared: behind any lines NoneUndeclared of the state in hand, and of the next state of any line: 22 counts facts of declared predicates
 --   did-only: no bytes but those of a (did ..) line are of its kind
---   large-alike: states that no diagram tells apart meet 15 for the same listings
 --
 -- Theorems: its names
 --   text-declares, text-declared: every text has such declarations, and they are DeclaredBy; none-before: no variant stands before the first action
@@ -64,7 +63,6 @@
 pub mod Claims
 pub mod Drawings
 -- laws
-pub mod LargeLaws
 pub mod ObjectLaws
 pub mod LineLaws
 pub mod MoveLaws

@@ -27,7 +27,7 @@ use Rattle.session.specs.Replaying.{replayIn, replayed}
 use Rattle.session.specs.Replies.{withLive}
 use Rattle.text_moves.specs.Claims.{inHand}
 use Rattle.text_replays.specs.Claims.{didIn, weightOf, nextOf, factsOfNext, rewardsMet}
-use Rattle.text_replays.specs.LargeLaws.{large-alike}
+use Rattle.replay.specs.LargeLaws.{large-alike}
 
 -- what is in hand behind the line, accepted
 abbrev pub replayBy : Session → Words K.Did → Replay

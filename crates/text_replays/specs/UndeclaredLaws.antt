@@ -44,7 +44,7 @@ use Rattle.text.specs.LineForm.{lineKind}
 use Rattle.events.specs.declared.Event.{Event}
 use Rattle.events.specs.declared.Event.the-variants as E
 use Rattle.reading.specs.declared.Binding.the-variants.{Only}
-use Rattle.reading.specs.Reading.{pickJudged, arguments, reading}
+use Rattle.reading.specs.Reading.{arguments, reading}
 use Rattle.reading.specs.Reading.Judged.{fine, refused as judged}
 use Rattle.reading.specs.Head.{openedNumber, headNumber, headArguments}
 use Rattle.build.specs.Machine.{built}
@@ -53,7 +53,7 @@ use Rattle.session.specs.Session.{Names, Live, Session, refuseIf, opening}
 use Rattle.session.specs.Declaring.{isDeclared, Vocabulary, constantLine, predicateLine, repeated, actionLine}
 use Rattle.session.specs.Facts.{cleared, objectsLine, placed, isLine, isFact, begunAgain, factLine, withFact, predicateOf, trueLine}
 use Rattle.session.specs.Modelling.{mostModelRows, namesFor, rowsWith, outcomeOf, withReward, rewardRead, rewardLine, addVariant, noTruths, withVariant, weightRead, variantLine}
-use Rattle.session.specs.Modelling.{pickOption, withTruthAt, lastTruths, lastVariant, truthsNow, isSome, withTruth, truthRead, becomesLine, weighed}
+use Rattle.session.specs.Modelling.{withTruthAt, lastTruths, lastVariant, truthsNow, isSome, withTruth, truthRead, becomesLine, weighed}
 use Rattle.session.specs.Running.{withHeld, stateIn, startLine}
 use Rattle.session.specs.Replaying.{didOf, replayIn, replayed, didLine}
 use Rattle.session.specs.Replies.{Reply, withVocabulary, withTotal, withDiscount, withAction, wordsOf, reply}
@@ -226,7 +226,7 @@ module _ (n p : ℕ) (few : p ≤ n) (d : Diagram) where
   unfolding withTruthAt
   put t h q g = go (flag (eqb q p))
     where
-      go : Flag (eqb q p) → pickOption (eqb q p) (some d) (t q) ≡ none
+      go : Flag (eqb q p) → cond (eqb q p) (some d) (t q) ≡ none
       go (isTrue e) = absurd (omega (arith, eqb-true q p e))
       go (isFalse e) = rw e (h q g)
 
@@ -254,7 +254,7 @@ head-below ks (E.Step ∷ es) = accepted-refused
 head-below ks (E.End ∷ es) = accepted-refused
 head-below ks (E.Holds k i ∷ es) = pick (isAmong k ks) refl
   where
-    pick : (b : Bool) → isAmong k ks ≡ b → Accepted (λ (p : ℕ). p ≤ length ks) (outcomeOf (pickJudged b (fine (placeOf k ks + 1)) (judged Name)))
+    pick : (b : Bool) → isAmong k ks ≡ b → Accepted (λ (p : ℕ). p ≤ length ks) (outcomeOf (cond b (fine (placeOf k ks + 1)) (judged Name)))
     pick true q = accepted-ok (omega (arith, ltb-true (placeOf k ks) (length ks) q))
     pick false q = accepted-refused
 

@@ -1,6 +1,6 @@
 -- From line to line: a constant that is not declared has object 0. (is c o) places declared ones alone, (objects n) places none, (true p o ..) and (did action variant o ..)
 -- change facts alone.
-use mathlib.Core.Path.{_≡_, refl, sym, _∙_}
+use mathlib.Core.Path.{_≡_, refl, _∙_}
 use mathlib.Core.Bool.{Bool, true, false, not, _||_, cond}
 use mathlib.Core.List.{List, [], _∷_, _++_}
 use Prim.Native.Nat.{ℕ, zero, suc, _≤_}
@@ -9,6 +9,7 @@ use lib.ListN.{length, getD, replicate, length-append}
 use lib.Seq.{getD-set-other}
 use lib.Dec.{ltb, leb, eqb}
 use borrow.Author.Tests.{ltb-true}
+use Rattle.basics.specs.Tests.{only-first}
 use Rattle.refusal.specs.declared.Refusal.the-variants.{Name, Arity, Range, Space}
 use Rattle.refusal.specs.Outcome.{ok, Accepted}
 use Rattle.refusal.specs.OutcomeLaws.{accepted-ok, accepted-next, accepted-cond}
@@ -77,17 +78,13 @@ zeros zero c = refl
 zeros (suc n) zero = refl
 zeros (suc n) (suc c) = zeros n c
 
-or-left : (a b : Bool) → (not a || b) ≡ false → a ≡ true
-or-left true b e = refl
-or-left false b e = sym e
-
 is-rest : (n : Names) (l : Live) → Rest n l → (k : Key) (o : ℕ) (m : Live) → isLine n l k o ≡ ok m → Rest n m
 unfolding isLine placed isAmong
 is-rest n l h k o m e =
     accepted-cond {P = λ (z : Live). Rest n z} (not (isAmong k (n .constants)) || eqb (getD (l .placed) (placeOf k (n .constants)) 0) 1) Name _ (λ a.
     accepted-cond (leb (l .objects) o) Range _ (λ b.
     accepted-ok (λ c i.
-    let there = ltb-true (placeOf k (n .constants)) (length (n .constants)) (or-left (isAmong k (n .constants)) _ a) in
+    let there = ltb-true (placeOf k (n .constants)) (length (n .constants)) (only-first (isAmong k (n .constants)) _ a .0) in
     getD-set-other (l .constants) (placeOf k (n .constants)) c o 0 (omega arith) ∙ h c i))) .given m e
 
 fact-rest : (n : Names) (l : Live) → Rest n l → (row : List ℕ) → Accepted (λ (z : Live). Rest n z) (factLine l row)

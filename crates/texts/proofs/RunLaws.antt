@@ -18,7 +18,7 @@ use Rattle.texts.specs.declared.Position.{Position}
 use Rattle.texts.specs.declared.Answered.{Answered}
 use Rattle.texts.specs.Ends.{lineLength}
 use Rattle.texts.specs.LineLaws.{behindLine, line-within, lines-first, lines-none, rest-all}
-use Rattle.texts.specs.Running.{Filled, fits, stopped, fillRest, fillLines, fillFrom, filledBehind, filled, Fills}
+use Rattle.texts.specs.Running.{Filled, fits, fillRest, fillFrom, filledBehind, filled, Fills}
 use Rattle.texts.specs.RunningLaws.{rest-grows, line-begins, begins-short}
 use Rattle.texts.specs.Sending.{mostLines, progressOf, Going, Started, Starts}
 use Rattle.texts.specs.Streaming.{Stream, fresh, onBytes}
@@ -42,9 +42,6 @@ module _ (text : List ℕ) (place e : ℕ) (h : place < length text) (q : e ≡ 
       lines-first s (omega (arith, length-drop place text))
       ∙ (λ i. behindLine (take (sym n i) s) (linesOf (drop-drop (suc (lineLength s)) place text i)))
       ∙ ap (λ (k : ℕ). behindLine (take (e - place) s) (linesOf (drop k text))) m
-
-  pub last-line : length text ≤ e → linesOf (drop place text) ≡ record { whole = []; rest = drop place text }
-  last-line l = lines-none (drop place text) (omega (arith, length-drop place text, line-within (drop place text)))
 
 -- ===== From line to line =====
 

@@ -3,9 +3,9 @@ use mathlib.Core.Path.{_≡_}
 use mathlib.Core.Bool.{Bool, cond}
 use mathlib.Core.List.{List, [], _∷_, _++_}
 use Prim.Native.Nat.{ℕ}
-use lib.ListN.{length, drop}
+use lib.ListN.{length, take, drop}
 use lib.Dec.{leb}
-use Rattle.session.specs.Texts.{Lines, linesOf, Progress, afterLine, afterRest, closing, beginning}
+use Rattle.session.specs.Texts.{Lines, linesOf, Progress, afterLine, afterLines, afterRest, closing, beginning, textAnswers}
 use Rattle.texts.specs.declared.Ran.{Ran}
 use Rattle.texts.specs.declared.Ran.the-variants.{Done, Full}
 
@@ -60,3 +60,23 @@ inFront w out = w ++ drop (length w) out
 pub record Fills (f : Filled) (out : List ℕ) (r : Ran) (out′ : List ℕ) : Type 0 where
   pub answer : r ≡ f .answer
   pub result : out′ ≡ inFront (f .bytes) out
+
+-- ===== Answers that have no room =====
+
+-- y begins with x
+pub record Begins (x y : List ℕ) : Type 0 where
+  pub more : List ℕ
+  pub is : y ≡ x ++ more
+
+-- how far a text is read: so many lines, or all and the rest behind them
+pub data Reached (p : Progress) (ls : List (List ℕ)) (s : List ℕ) (q : Progress) : Type 0 where
+  after : (k : ℕ) → q ≡ afterLines p (take k ls) → Reached p ls s q
+  behind : q ≡ afterRest (afterLines p ls) s → Reached p ls s q
+
+-- without room for all answers: the lines answered and the bytes written, which begin all answers
+pub record RunStops (s out : List ℕ) (r : Ran) (out′ : List ℕ) : Type 0 where
+  pub progress : Progress
+  pub answer : r ≡ Full (length (progress .bytes)) (progress .lines)
+  pub result : out′ ≡ inFront (progress .bytes) out
+  pub reached : Reached beginning (linesOf s .whole) (linesOf s .rest) progress
+  pub begins : Begins (progress .bytes) (textAnswers s)

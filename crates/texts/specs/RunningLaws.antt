@@ -6,16 +6,11 @@ use Prim.Native.Nat.{ℕ, suc, _≤_, _<_}
 use native.Mathlib.Omega.{arith}
 use native.Mathlib.Decide.{decLt}
 use borrow.Author.Tests.{le-leb, lt-leb}
-use lib.ListN.{length, take, length-append}
+use lib.ListN.{length, length-append}
 use Rattle.session.specs.Texts.{Progress, afterLine, afterLines, afterRest, closing, beginning, linesOf, textAnswers}
 use Rattle.texts.specs.declared.Ran.{Ran}
-use Rattle.texts.specs.declared.Ran.the-variants.{Done, Full}
-use Rattle.texts.specs.Running.{Filled, fits, stopped, allBytes, fillClosing, fillRest, fillLines, filled, inFront, Fills}
-
--- y begins with x
-pub record Begins (x y : List ℕ) : Type 0 where
-  pub more : List ℕ
-  pub is : y ≡ x ++ more
+use Rattle.texts.specs.declared.Ran.the-variants.{Done}
+use Rattle.texts.specs.Running.{Filled, fits, stopped, allBytes, fillClosing, fillRest, fillLines, filled, inFront, Fills, Begins, Reached, after, behind, RunStops}
 
 begins-all : (x : List ℕ) → Begins x x
 begins-all x = record { more = []; is = sym (append-nil x) }
@@ -63,11 +58,6 @@ fill-all room p [] s h =
 fill-all room p (l ∷ ls) s h =
     rw (le-leb (length (afterLine p l .bytes)) room (omega (arith, begins-short (whole-begins (afterLine p l) ls s))))
     (fill-all room (afterLine p l) ls s h)
-
--- how far a text is read: so many lines, or all and the rest behind them
-pub data Reached (p : Progress) (ls : List (List ℕ)) (s : List ℕ) (q : Progress) : Type 0 where
-  after : (k : ℕ) → q ≡ afterLines p (take k ls) → Reached p ls s q
-  behind : q ≡ afterRest (afterLines p ls) s → Reached p ls s q
 
 reached-more : {p q : Progress} {l : List ℕ} {ls : List (List ℕ)} {s : List ℕ} → Reached (afterLine p l) ls s q → Reached p (l ∷ ls) s q
 unfolding afterLines
@@ -154,15 +144,7 @@ module _ (s out : List ℕ) {out′ : List ℕ} {r : Ran} (x : Fills (filled (le
       let e = fill-all (length out) beginning (linesOf s .whole) (linesOf s .rest) h in
       (x .answer ∙ ap (λ (f : Filled). f .answer) e, x .result ∙ ap (λ (f : Filled). inFront (f .bytes) out) e)
 
--- without: the lines answered and the bytes written, which begin all answers
-pub record RunStops (s out : List ℕ) (r : Ran) (out′ : List ℕ) : Type 0 where
-  pub progress : Progress
-  pub answer : r ≡ Full (length (progress .bytes)) (progress .lines)
-  pub result : out′ ≡ inFront (progress .bytes) out
-  pub reached : Reached beginning (linesOf s .whole) (linesOf s .rest) progress
-  pub begins : Begins (progress .bytes) (textAnswers s)
-
-module _ (s out : List ℕ) {out′ : List ℕ} {r : Ran} (x : Fills (filled (length out) s) out r out′) where
+  -- without
   pub run-full : length out < length (textAnswers s) → RunStops s out r out′
   unfolding textAnswers filled beginning
   run-full h =

@@ -23,7 +23,7 @@ use Rattle.session.specs.Texts.{lineFeed, Lines, behindByte, linesOf, hasBytes,
 use Rattle.texts.specs.Ends.{lineLength}
 use Rattle.texts.specs.LineLaws.{line-within, line-whole, line-ends, line-front}
 use Rattle.texts.specs.Running.{allBytes}
-use Rattle.texts.specs.Streaming.{lineRoom, Stream, fresh, onByte, onBytes, onBlocks, streamStart, onEnd, behindWritten, restOf}
+use Rattle.texts.specs.Streaming.{lineRoom, Stream, fresh, onByte, onBytes, onBlocks, joined, streamStart, onEnd, behindWritten, restOf}
 
 -- ===== A line that is too long =====
 
@@ -137,11 +137,6 @@ rest-line q s = go (ltb (lineLength s) (length s)) refl
         ∙ sym (on-line q [] s (omega arith) h)
 
 -- ===== The whole text =====
-
--- one list of all blocks
-abbrev pub joined : List (List ℕ) → List ℕ
-joined [] = []
-joined (b ∷ bs) = b ++ joined bs
 
 pub blocks-joined : (t : Stream) (bs : List (List ℕ)) → onBlocks t bs ≡ onBytes t (joined bs)
 unfolding onBlocks onBytes

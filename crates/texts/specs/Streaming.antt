@@ -42,6 +42,11 @@ unfolding onBytes
 onBlocks t [] = t
 onBlocks t (b ∷ bs) = onBlocks (onBytes t b) bs
 
+-- one list of all blocks
+abbrev pub joined : List (List ℕ) → List ℕ
+joined [] = []
+joined (b ∷ bs) = b ++ joined bs
+
 unfoldable pub streamStart : Stream
 unfolding beginning
 streamStart = fresh beginning

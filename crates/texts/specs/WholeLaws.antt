@@ -2,13 +2,13 @@
 use mathlib.Core.Path.{_≡_, refl, sym, ap, _∙_}
 use mathlib.Core.Bool.{Bool, true, false, cond}
 use mathlib.Core.List.{List, [], _∷_}
-use Prim.Native.Nat.{ℕ, suc, _+_, _≤_, _<_}
+use Prim.Native.Nat.{ℕ, suc, _+_, _≤_}
 use native.Mathlib.Omega.{arith}
 use borrow.Author.Tests.{le-leb, leb-true}
 use lib.ListN.{length}
 use lib.Dec.{leb}
 use Rattle.session.specs.Texts.{Progress, afterLine}
-use Rattle.texts.specs.Running.{Filled, fits, stopped, fillRest, fillLines, filledBehind}
+use Rattle.texts.specs.Running.{fits, stopped, fillLines, filledBehind}
 use Rattle.texts.specs.Whole.{unwritten, Whole, wholeFrom}
 
 -- too few bytes are free

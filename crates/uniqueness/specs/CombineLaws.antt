@@ -7,6 +7,7 @@ use native.Mathlib.Omega.{arith}
 use lib.ListN.{length, take, drop}
 use lib.Dec.{ltb}
 use borrow.Author.Tests.{ltb-false, not-false}
+use Rattle.basics.specs.Tests.{neither}
 use Rattle.refusal.specs.declared.Refusal.{Refusal}
 use Rattle.refusal.specs.declared.Refusal.the-variants.{Listing, Buffer}
 use Rattle.label.specs.Limits.{firstVariable, variableCount, firstMinimum, minimumCount}
@@ -16,7 +17,7 @@ use Rattle.diagram.specs.Words.{isListing}
 use Rattle.diagram.specs.Listing.{Fine, Good, listing, diagramOf}
 use Rattle.diagram.specs.Listings.{is-listing-good}
 use Rattle.diagram.specs.Variables.{variables, minimums, closed, after}
-use Rattle.rename.specs.ClosingLaws.{closed-good, after-fit, after-good}
+use Rattle.rename.specs.ClosingLaws.{closed-count, closed-good, after-fit, after-good}
 use Rattle.apply.specs.declared.Operation.{Operation}
 use Rattle.apply.specs.declared.Names.{Names}
 use Rattle.apply.specs.declared.Names.the-variants.{Apart, Shared}
@@ -27,8 +28,6 @@ use Rattle.apply.specs.ApplyLaws.{eval-apply}
 use Rattle.apply.specs.GoodLaws.{fine-apply, good-apply}
 use Rattle.apply.specs.Combination.{operate, combination, diagramAnswer, doneAs, combineAnswer, combineResult}
 use Rattle.apply.specs.CombinationLaws.{Accepted, done-accepted, result-done, eval-shared, good-shared}
-use Rattle.mdp.specs.CallLaws.{closed-count}
-use Rattle.model_laws.specs.OutcomeLaws.{neither}
 use Rattle.uniqueness.specs.Meaning.{Choice, TheOnly, readThrough, closedMeaning, TheOnlyClosed, sharedMeaning, following, apartMeaning, OnlyCombined}
 use Rattle.uniqueness.specs.OnlyLaws.{good-only, only-written}
 use Rattle.uniqueness.specs.ThroughLaws.{closed-means, closedFrom-means, closed-only}

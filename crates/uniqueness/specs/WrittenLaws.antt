@@ -11,13 +11,10 @@ use Rattle.label.specs.Labels.{isLabel}
 use Rattle.label.specs.declared.Test.the-variants.{Always, Is}
 use Rattle.forms.specs.Tree as T
 use Rattle.diagram.specs.Sizes.{mostRows}
-use Rattle.diagram.specs.Diagram.{Diagram, leaf, branch, eval, relabel, Ordered, Reduced}
+use Rattle.diagram.specs.Diagram.{Diagram, leaf, branch, eval, relabel, EveryLabel}
 use Rattle.diagram.specs.Listing.{Fine, Good}
 use Rattle.diagram.specs.Variables.{closedFrom, closed}
-use Rattle.apply.specs.GoodLaws.{EveryLabel}
-use Rattle.regression.specs.Step.{testDiagram}
-use Rattle.regression.specs.StepLaws.{ordered-test, from-stepped, reduced-stepped}
-use Rattle.mdp.specs.CallLaws.{closed-count}
+use Rattle.rename.specs.ClosingLaws.{closed-count}
 use Rattle.events.specs.Events.{diagramEvents}
 use Rattle.reading.specs.Operations.{Op}
 use Rattle.reading.specs.Operations.Op.{step}
@@ -29,9 +26,10 @@ use Rattle.reading.specs.JudgedLaws.{passed, chained}
 use Rattle.reading.specs.TreeLaws.{reading-diagram}
 use Rattle.reading.specs.GoodLaws.{reading-sound}
 use Rattle.build.specs.Build.{meaning}
+use Rattle.build.specs.Written.{diagramFor, EachAsked, EachValue}
 use Rattle.build.specs.Machine.{mostTests, built, builtClosed}
 use Rattle.build.specs.MachineLaws.{built-text, built-reward}
-use Rattle.build.specs.ReadingLaws.{diagramFor, EachAsked, EachValue, eval-for, labels-for, text-held, reward-held, text-good, reward-good}
+use Rattle.build.specs.ReadingLaws.{ordered-for, reduced-for, eval-for, labels-for, text-held, reward-held, text-good, reward-good}
 use Rattle.uniqueness.specs.Meaning.{TheOnlyClosed}
 use Rattle.uniqueness.specs.Text.{StandsFor, Writes, WritesClosed}
 use Rattle.uniqueness.specs.OnlyLaws.{good-only}
@@ -98,16 +96,6 @@ module _ (ar : List ℕ) (P : ℕ → Type 0) where
   good-value : (r : Reading) → GoodReading ar P r → EachValue r
   good-value (number v) g = g
   good-value (conditional t h f) g = (good-value h (g .1), good-value f (g .2))
-
-ordered-for : (r : Reading) → Ordered (diagramFor r)
-unfolding diagramFor
-ordered-for (number v) = tt
-ordered-for (conditional t h f) = from-stepped 0 (testDiagram t) (diagramFor h) (diagramFor f) (ordered-test t) (ordered-for h) (ordered-for f)
-
-reduced-for : (r : Reading) → Reduced (diagramFor r)
-unfolding diagramFor
-reduced-for (number v) = tt
-reduced-for (conditional t h f) = reduced-stepped (testDiagram t) (diagramFor h) (diagramFor f)
 
 -- leaves are in their range where they are after relabelling
 fine-before : (ar : List ℕ) (g : ℕ → ℕ) (d : Diagram) → EveryLabel (λ l. isLabel ar l ≡ true) d → Fine ar (relabel g d) → Fine ar d

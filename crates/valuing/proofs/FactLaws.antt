@@ -12,9 +12,8 @@ use lib.Seq.{getD-set-same, getD-set-other}
 use lib.Dec.{eqb}
 use Rattle.basics.specs.Tests.{Cmp, below, equal, above, cmp, Flag, isTrue, isFalse, flag, and-left, and-right}
 use Rattle.basics.specs.Members.{clash}
-use Rattle.label.specs.Limits.{mostPlaces, termEnd}
+use Rattle.label.specs.Limits.{mostPlaces}
 use Rattle.label.specs.Labels.{predicateOf, placeAt}
-use Rattle.diagram.specs.Words.{everyBelow}
 use Rattle.diagram.specs.WordLaws.{below-every}
 use Rattle.state.specs.Lent.{factCount, factWords, predicateAt, someBelow}
 use Rattle.state.specs.LentLaws.{some-made, some-none}

@@ -2,14 +2,13 @@
 use mathlib.Core.Path.{_≡_, refl, sym, ap, subst, _∙_}
 use mathlib.Core.Bool.{Bool, true, false, cond}
 use mathlib.Core.List.{List, []}
-use Prim.Native.Nat.{ℕ, suc, _+_, _-_, _*_, _≤_, _<_, max}
+use Prim.Native.Nat.{ℕ, suc, _+_, _-_, _*_, _≤_, _<_}
 use native.Mathlib.Omega.{arith}
 use borrow.Author.Tests.{ltb-true, ltb-false, lt-ltb, le-ltb}
 use lib.ListN.{length, getD, set, replicate, length-set, length-replicate}
 use lib.Seq.{getD-set-same, getD-set-other, set-getD, set-set}
 use lib.Dec.{ltb}
 use Rattle.basics.specs.Tests.{Cmp, below, equal, above, cmp, Flag, isTrue, isFalse, flag}
-use Rattle.basics.specs.Members.{clash}
 use Rattle.label.specs.Limits.{termEnd, firstVariable, firstMinimum, leafMark}
 use Rattle.diagram.specs.Sizes.{highestValue, mostRows}
 use Rattle.diagram.specs.Diagram.{Diagram, leaf, branch, eval}
@@ -19,14 +18,14 @@ use Rattle.diagram.specs.Validity.{Valid}
 use Rattle.diagram.specs.Variables.{occurs}
 use Rattle.diagram.specs.RowDiagrams.{leaf-row}
 use Rattle.diagram.specs.DiagramOfListing.{valid-rows, good-diagram}
-use Rattle.state.specs.State.{State, value, meaning}
+use Rattle.state.specs.State.{value, meaning}
 use Rattle.state.specs.ValueLaws.{by-low, value-same}
 use Rattle.state.specs.Lent.{stateOf}
 use Rattle.minimum.specs.NumberLaws.{split, split-low, split-high}
 use Rattle.minimum.specs.OccurLaws.{occur-terms}
 use Rattle.listing.specs.Used.{Used}
 use Rattle.valuing.specs.Search.{free, TopsBy, lentHolds, leafFrom, Extends, Env, Topping, Hit, old, new, Best, Ready}
-use Rattle.valuing.specs.Rising.{turned, leafOf, Beneath, Held, Risen, Settled, Topmost, Chosen, Rising, Next}
+use Rattle.valuing.specs.Rising.{turned, leafOf, Beneath, Held, Settled, Topmost, Chosen, Rising, Next}
 use Rattle.valuing.specs.Rising as rising
 use Rattle.valuing.proofs.SearchLaws.{tops-numbered, filled, filled-extends, set-env, extends-in, extends-out}
 use Rattle.valuing.proofs.StartLaws.{lent-value, root-number}

@@ -8,7 +8,7 @@ use borrow.Author.Tests.{eqb-true, eqb-false, eq-eqb, ne-eqb}
 use lib.ListN.{length, getD, set, take, length-set, length-map, List·getD-eq-default}
 use lib.Seq.{getD-set-same, getD-set-other, set-getD, set-set, length-take-le, getD-take, ext-getD}
 use lib.Dec.{eqb}
-use Rattle.basics.specs.Tests.{Cmp, below, equal, above, cmp, Flag, isTrue, isFalse, flag, and-left, and-right}
+use Rattle.basics.specs.Tests.{Cmp, below, equal, above, cmp, Flag, isTrue, isFalse, flag}
 use Rattle.label.specs.Limits.{termEnd, leafMark, predicateCount, mostPlaces, equality, equalityArity}
 use Rattle.label.specs.Labels.{areArities, predicateOf, placeAt, unpacked, placesOf, termsOf}
 use Rattle.label.specs.LabelLaws.{label-fits, place-of, place-end}

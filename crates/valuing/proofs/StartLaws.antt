@@ -155,9 +155,6 @@ module _ (constants os : List ℕ) (t : ℕ) where
       e ∙ sym (List·getD-eq-default os (getD constants 0 0) l)
       ∙ sym (low-ge firstParameter t (getD constants t 0) (getD os (t - firstParameter) (getD constants 0 0)) h)
 
-pub placing-none : (constants os env : List ℕ) → length env ≡ termEnd → Placing constants os env env 0
-placing-none constants os env h = record { places = h; bound = λ t l. absurd (omega arith); others = λ t l. refl }
-
 pub placing-on : {constants os env₀ env : List ℕ} {t o : ℕ} → Placing constants os env₀ env t → t < firstVariable → o ≡ fixedIn constants os t
     → Placing constants os env₀ (set env t o) (t + 1)
 placing-on {constants} {os} {env₀} {env} {t} {o} s l e = record {

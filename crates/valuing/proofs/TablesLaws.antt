@@ -3,11 +3,11 @@ use mathlib.Core.Path.{_≡_, refl, sym, ap, subst, _∙_}
 use mathlib.Core.Logic.{_≢_}
 use mathlib.Core.Bool.{Bool, true, false, not, or-true}
 use mathlib.Core.List.{List, []}
-use Prim.Native.Nat.{ℕ, pred, _+_, _-_, _*_, _/_, _^_, _≤_, _<_}
+use Prim.Native.Nat.{ℕ, pred, _+_, _-_, _*_, _^_, _≤_, _<_}
 use native.Mathlib.Nat.{pow-zero}
 use native.Mathlib.Omega.{arith}
 use lib.ListN.{length, getD, replicate, length-replicate, getD-replicate}
-use lib.Dec.{eqb, ltb}
+use lib.Dec.{eqb}
 use borrow.Author.Tests.{eqb-true, lt-ltb, le-ltb, not-true, not-false}
 use Rattle.basics.specs.Members.{mem, clash}
 use Rattle.label.specs.Limits.{termEnd, firstVariable, firstMinimum, minimumCount, leafMark}
@@ -25,7 +25,7 @@ use Rattle.diagram.specs.DiagramOfListing.{valid-rows}
 use Rattle.diagram.specs.ListingValid.{listing-is-valid}
 use Rattle.diagram.specs.Listings.{is-listing-good}
 use Rattle.state.specs.declared.Valued.the-variants.{Value, Refused}
-use Rattle.state.specs.State.{State, Good, Fits, meaning, fixed}
+use Rattle.state.specs.State.{State, Good, meaning}
 use Rattle.state.specs.ValueLaws.{by-low}
 use Rattle.state.specs.Highest.{start, Bound}
 use Rattle.state.specs.HighestLaws.{start-fits}
@@ -43,11 +43,11 @@ use Rattle.eliminate.specs.Masks.{namesOf, envOf, placeOf}
 use Rattle.eliminate.specs.MaskLaws.{of-zero}
 use Rattle.eliminate.specs.Calls.{PlainLabel, setAt, startAt, Stored}
 use Rattle.eliminate.specs.Above.{Above}
-use Rattle.eliminate.specs.Stores.{Said, Holds}
+use Rattle.eliminate.specs.Stores.{Holds}
 use Rattle.eliminate.specs.Rows.{Ready, Tabled, Finished}
 use Rattle.eliminate.specs.declared.Reached.{Reached}
 use Rattle.eliminate.specs.declared.Reached.the-variants.{At, Over}
-use Rattle.valuing.specs.Search.{fixedIn, Placing}
+use Rattle.valuing.specs.Search.{Placing}
 use Rattle.valuing.specs.Tables.{tablesAnswer}
 use Rattle.valuing.proofs.FactLaws.{read-past}
 use Rattle.valuing.proofs.SearchLaws.{place-term}
@@ -184,9 +184,6 @@ module _ (ar ws : List ℕ) (n : ℕ) (constants facts os : List ℕ) (listed : 
 
         stored : Stored heads′ space′ n root
         stored = ready .stored root last
-
-        pub root-head : root * 2 + 2 ≤ length heads′
-        root-head = stored .head
 
         pub root-start : getD heads′ (root * 2 + 1) 0 < length space′
         unfolding startAt

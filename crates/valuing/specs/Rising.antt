@@ -1,7 +1,7 @@
 -- The search where there are minimum variables (document 02, L12): every choice of objects for the maximum variables is tried, and beneath each the lowest
 -- leaf is sought, as the highest of leaves turned about.
 use mathlib.Core.Path.{_≡_}
-use mathlib.Core.Bool.{Bool, true, cond}
+use mathlib.Core.Bool.{true, cond}
 use mathlib.Core.List.{List}
 use Prim.Native.Nat.{ℕ, suc, _-_, _≤_, _<_}
 use lib.ListN.{length, getD}

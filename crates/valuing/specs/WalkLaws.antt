@@ -5,23 +5,20 @@ use mathlib.Core.List.{List, [], _∷_}
 use Prim.Native.Nat.{ℕ, zero, suc, _+_, _≤_, _<_}
 use native.Mathlib.Omega.{arith}
 use lib.ListN.{length, getD, replicate, length-replicate, getD-replicate}
-use lib.Dec.{eqb, ltb}
+use lib.Dec.{ltb}
 use borrow.Author.Tests.{ltb-true}
 use Rattle.basics.specs.Tests.{and-left, and-right}
 use Rattle.diagram.specs.Sizes.{mostRows}
 use Rattle.diagram.specs.Words.{rowCount, isListing}
-use Rattle.diagram.specs.Listing.{diagramOf}
 use Rattle.diagram.specs.ListingValid.{listing-is-valid}
 use Rattle.table.specs.ChainLaws.{prev-zero}
 use Rattle.state.specs.declared.Valued.the-variants.{Value}
 use Rattle.state.specs.State.{State, Good}
 use Rattle.state.specs.Highest.{Bound}
 use Rattle.state.specs.Lent.{allBelow, isState}
-use Rattle.state.specs.ValueCall.{parameters}
-use Rattle.elimination.specs.Answer.{answerBy, valueAnswer}
 use Rattle.valuing.specs.Index.{buckets, mostIndexed, indexedCount, bucketAt, Indexed, Clean}
 use Rattle.valuing.specs.Search.{Topping, Tops}
-use Rattle.valuing.specs.Walks.{boundAnswer, climbed, Prepared}
+use Rattle.valuing.specs.Walks.{climbed, Prepared}
 
 -- ===== The index =====
 pub clean-zeros : (m : ℕ) → buckets + mostIndexed ≤ m → Clean (replicate m 0)
@@ -62,9 +59,3 @@ unfolding climbed
 climbed-first v = ap Value (omega arith)
 
 -- ===== The value call =====
-
--- past its checks it answers what is answered with no objects for the parameters
-pub listed-value : (ar ws : List ℕ) (n : ℕ) (constants facts : List ℕ) → isListing ar ws ≡ true → isState ar n constants facts ≡ true
-    → eqb (length (parameters ar (diagramOf ws))) 0 ≡ true → valueAnswer ar ws n constants facts ≡ boundAnswer ar ws n constants facts []
-unfolding valueAnswer answerBy boundAnswer
-listed-value ar ws n constants facts a b c = rw (a, b, c)

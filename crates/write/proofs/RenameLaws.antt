@@ -1,24 +1,22 @@
 -- Laws of `rename`: a listing renamed where it stands is the listing of the renamed diagram.
-use mathlib.Core.Bool.{true, false}
 use mathlib.Core.Path.{_≡_, refl, sym, ap, ap₂, _∙_}
-use mathlib.Core.List.{List, [], _∷_, _++_, map}
-use Prim.Native.Nat.{ℕ, zero, suc, _+_, _*_, _<_, _≤_, zero-le}
+use mathlib.Core.List.{List, _++_, map}
+use Prim.Native.Nat.{ℕ, _+_, _*_, _<_, _≤_, zero-le}
 use native.Mathlib.Omega.{arith}
 use borrow.Author.Tests.{eq-eqb, ne-eqb}
 use lib.ListN.{length, getD, set, take, drop, length-set, length-map, take-append-drop}
 use lib.Seq.{getD-set-same, getD-set-other, drop-set-lt, length-take-le, getD-take}
-use lib.Dec.{eqb}
-use Rattle.basics.specs.Tests.{Cmp, cmp, below, equal, above, Flag, isTrue, isFalse, flag}
+use Rattle.basics.specs.Tests.{Cmp, cmp, below, equal, above}
 use Rattle.label.specs.Limits.{leafMark}
 use Rattle.label.specs.Renamings.{mapOf, renamed}
-use Rattle.label.specs.Callers.{TermMap, Movable}
+use Rattle.label.specs.Callers.{Movable}
 use Rattle.label.proofs.CodeLaws.{under-all}
 use Rattle.diagram.specs.Sizes.{mostRows}
 use Rattle.diagram.specs.Diagram.{Diagram, leaf, branch, relabel}
 use Rattle.diagram.specs.Rows.{rows}
-use Rattle.diagram.specs.Words.{labelAt, highAt, lowAt, rowCount, upTo, isListing}
+use Rattle.diagram.specs.Words.{labelAt, highAt, lowAt, rowCount, upTo}
 use Rattle.diagram.specs.WordLaws.{length-upTo, getD-map}
-use Rattle.diagram.specs.Listing.{index, listing, diagramOf}
+use Rattle.diagram.specs.Listing.{index, listing}
 use Rattle.diagram.specs.ListingLaws.{getD-index, index-less}
 use Rattle.diagram.specs.Listings.{listing-written}
 use Rattle.diagram.specs.ListingValid.{listing-is-valid}

@@ -1,6 +1,6 @@
 -- Laws of `write`: the rows that the walk from the root numbers are the rows of its diagram, and the words written are its listing.
-use mathlib.Core.Bool.{Bool, true, false}
-use mathlib.Core.Path.{_≡_, refl, sym, ap, ap₂, _∙_}
+use mathlib.Core.Bool.{true}
+use mathlib.Core.Path.{_≡_, sym, ap, _∙_}
 use mathlib.Core.Logic.{_≢_}
 use mathlib.Core.List.{List, [], _∷_, _++_, map}
 use Prim.Native.Nat.{ℕ, zero, suc, _+_, _-_, _*_, _<_, _≤_, zero-le}
@@ -8,12 +8,11 @@ use native.Mathlib.Omega.{arith}
 use borrow.Author.Tests.{eqb-true, eqb-false, le-leb, lt-leb}
 use lib.ListN.{length, getD, take, drop, length-map}
 use lib.Seq.{take-suc, length-take-le, getD-take}
-use lib.Dec.{eqb, leb}
+use lib.Dec.{eqb}
 use Rattle.basics.specs.Tests.{Flag, isTrue, isFalse, flag}
 use Rattle.basics.specs.Members.{mem}
 use Rattle.label.specs.Limits.{leafMark}
-use Rattle.table.specs.declared.Row.{Row}
-use Rattle.diagram.specs.Sizes.{mostRows, spaceRows}
+use Rattle.diagram.specs.Sizes.{mostRows}
 use Rattle.diagram.specs.Diagram.{Diagram, leaf, branch, same}
 use Rattle.diagram.specs.Rows.{onto, rows}
 use Rattle.diagram.specs.Words.{labelAt, highAt, lowAt, finish}
@@ -21,18 +20,15 @@ use Rattle.diagram.specs.WordLaws.{map-snoc, getD-map, AllBelow}
 use Rattle.diagram.specs.Listing.{index, encode, listing}
 use Rattle.diagram.specs.ListingLaws.{encode-append}
 use Rattle.diagram.specs.Validity.{tree}
-use Rattle.diagram.specs.RowLists.{rowTree, Written}
+use Rattle.diagram.specs.RowLists.{rowTree}
 use Rattle.diagram.specs.RowLaws.{rows-kept, kept-index-is}
 use Rattle.diagram.specs.Shown.{Shown, agrees, mem-tree}
-use Rattle.diagram.specs.WrittenRows.{written-listing-words}
 use Rattle.apply.specs.RowLaws.{rows-onto}
-use Rattle.store.specs.Space.{diagramsOf}
-use Rattle.store.proofs.SpaceLaws.{length-diagrams, written-trees}
-use Rattle.write.specs.declared.Listed.{Listed}
+use Rattle.store.proofs.SpaceLaws.{written-trees}
 use Rattle.write.specs.declared.Listed.the-variants.{Rows, TooMany}
 use Rattle.write.specs.Numbering.{Marked, Unmarked, Unnumbered, Downward, Numbered}
-use Rattle.write.specs.Writing.{renumbered, listedRows, Renumberable, Emittable, Writable, writeAnswer, writeWords, WritePost}
-use Rattle.write.proofs.NumberLaws.{Place, place-of}
+use Rattle.write.specs.Writing.{renumbered, listedRows, Emittable, Writable, writeAnswer, writeWords, WritePost}
+use Rattle.write.proofs.NumberLaws.{place-of}
 use Rattle.write.proofs.WriteLaws.{rowWords, renumbered-leaf, renumbered-branch, listed-none, listed-snoc}
 
 below-at : (m : ℕ) (xs : List ℕ) (i : ℕ) → AllBelow m xs → i < length xs → getD xs i 0 < m
@@ -193,10 +189,3 @@ module _ {s : List ℕ} {count root : ℕ} {marks order out : List ℕ} (w : Wri
     write-rows h {out′} {marks″} p u =
         let e = le-leb (length (rows D)) mostRows (omega (arith, row-count)) in
         record { answer = rw (e, row-count); words = rw (e, row-count, listing-is) p; unmarked = u }
-
--- rows formed in an empty space, in the order of the listing
-pub copied-listing : (s : List ℕ) (count : ℕ) (d : Diagram) → Written s (diagramsOf s count) → diagramsOf s count ≡ rows d → count * 3 ≤ length s
-    → take (count * 3) s ≡ listing d
-copied-listing s count d w e h =
-    let n : length (rows d) ≡ count = ap length (sym e) ∙ length-diagrams s count in
-    rw n at (written-listing-words s d (rw e at w) (omega (arith, n)))

@@ -1,42 +1,22 @@
 -- Laws of the words written.
-use mathlib.Core.Bool.{Bool, true, false}
-use mathlib.Core.Path.{_≡_, refl, sym, ap, ap₂, subst, _∙_}
+use mathlib.Core.Path.{_≡_, refl, sym, ap, ap₂, _∙_}
 use mathlib.Core.Logic.{_≢_}
-use mathlib.Core.List.{List, [], _∷_, _++_, map, append-assoc}
-use Prim.Native.Nat.{ℕ, zero, suc, _+_, _-_, _*_, _<_, _≤_, zero-le}
+use mathlib.Core.List.{List, [], _∷_, _++_, append-assoc}
+use Prim.Native.Nat.{ℕ, suc, _+_, _-_, _*_, _<_, _≤_, zero-le}
 use native.Mathlib.Numerals.{add-one}
 use native.Mathlib.Omega.{arith}
-use borrow.Author.Tests.{eqb-true, eqb-false, eq-eqb, ne-eqb, le-leb, lt-leb}
+use borrow.Author.Tests.{eq-eqb, ne-eqb}
 use mir.Val.{Fits}
 use mir.Syntax.{w64}
-use lib.ListN.{length, getD, set, take, drop, length-set, length-map, take-append-drop}
-use lib.Seq.{getD-set-same, getD-set-other, take-suc, take-suc-set, take-set-le, drop-set-lt, drop-drop, length-take-le, getD-take}
-use lib.Dec.{eqb}
-use Rattle.basics.specs.Tests.{Flag, isTrue, isFalse, flag}
-use Rattle.basics.specs.Members.{mem}
+use lib.ListN.{length, getD, set, take, drop, length-set, take-append-drop}
+use lib.Seq.{take-suc, take-suc-set, drop-set-lt, drop-drop}
 use Rattle.label.specs.Limits.{leafMark}
 use Rattle.table.specs.declared.Row.{Row}
 use Rattle.table.specs.Rows.{putAt}
 use Rattle.table.proofs.RowLaws.{length-put, drop-put}
-use Rattle.diagram.specs.Sizes.{mostRows, spaceRows}
-use Rattle.diagram.specs.Diagram.{Diagram, leaf, branch, same}
-use Rattle.diagram.specs.Rows.{onto, rows}
-use Rattle.diagram.specs.Words.{labelAt, highAt, lowAt, upTo, finish}
-use Rattle.diagram.specs.WordLaws.{map-snoc, getD-map, AllBelow}
-use Rattle.diagram.specs.Listing.{index, encode, listing}
-use Rattle.diagram.specs.ListingLaws.{encode-append, length-listing}
-use Rattle.diagram.specs.Validity.{tree}
-use Rattle.diagram.specs.RowLists.{rowTree, Written, Earlier}
-use Rattle.diagram.specs.RowLaws.{rows-kept, kept-index-is}
-use Rattle.diagram.specs.Shown.{Shown, agrees, mem-tree}
-use Rattle.diagram.specs.WrittenRows.{written-shown, written-listing-words}
-use Rattle.store.specs.Space.{diagramsOf}
-use Rattle.store.proofs.SpaceLaws.{length-diagrams, diagram-at}
-use Rattle.write.specs.declared.Listed.{Listed}
-use Rattle.write.specs.declared.Listed.the-variants.{Rows, TooMany}
-use Rattle.write.specs.Numbering.{Marked, Unmarked, Downward, Numbered}
-use Rattle.write.specs.Writing.{renumbered, listedRows, Renumberable, Emittable, Writable, writeAnswer, writeWords, WritePost}
-use Rattle.write.proofs.NumberLaws.{Place, place-of}
+use Rattle.diagram.specs.Sizes.{spaceRows}
+use Rattle.diagram.specs.Words.{labelAt, highAt, lowAt}
+use Rattle.write.specs.Writing.{renumbered, listedRows, Renumberable, Emittable}
 
 -- the laws of `renumbered` and `listedRows`
 pub renumbered-leaf : (s marks : List ℕ) (k : ℕ) → labelAt s k ≡ leafMark → renumbered s marks k ≡ record { label = leafMark; high = highAt s k; low = 0 }

@@ -19,7 +19,7 @@ use Rattle.diagram.specs.RowLists.{Written}
 use Rattle.store.specs.Space.{diagramsOf}
 use Rattle.write.specs.declared.Listed.{Listed}
 use Rattle.write.specs.declared.Listed.the-variants.{Rows, TooMany}
-use Rattle.write.specs.Numbering.{Marked, Unmarked}
+use Rattle.write.specs.Numbering.{Unmarked}
 
 -- row k as it stands in the listing: its children by their numbers
 unfoldable pub renumbered : List ℕ → List ℕ → ℕ → Row

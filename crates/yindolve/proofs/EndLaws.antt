@@ -1,13 +1,13 @@
 -- Laws of a run of the program: from block to block, and to its end.
 use mathlib.Core.Path.{_≡_, refl, sym, ap, subst, _∙_}
-use mathlib.Core.Bool.{Bool, true, false, cond, not, true≢false}
-use mathlib.Core.List.{List, [], _∷_, _++_}
+use mathlib.Core.Bool.{Bool, true, false, cond, true≢false}
+use mathlib.Core.List.{List, [], _∷_}
 use Prim.Native.Nat.{ℕ, suc, _+_, _*_, _-_, _<_, _≤_}
 use native.Mathlib.Omega.{arith}
 use native.Mathlib.Decide.{decLt}
-use borrow.Author.Tests.{ltb-true, ltb-false, lt-ltb, le-ltb}
+use borrow.Author.Tests.{ltb-true, ltb-false, le-ltb}
 use lib.Dec.{ltb}
-use lib.ListN.{length, take, drop, length-append, length-drop}
+use lib.ListN.{length, take, drop}
 use lib.Seq.{length-take-le, take-all}
 use Rattle.answers.specs.Writing.{mostBytes}
 use Rattle.session.specs.Texts.{Lines, linesOf, Progress, beginning}
@@ -15,7 +15,7 @@ use Rattle.memory.specs.Memory.{Memory}
 use Rattle.pipes.specs.declared.Flow.{Flow}
 use Rattle.pipes.specs.declared.Flow.the-variants.{Open, Ended, Unread, Unwritten, TooLong}
 use Rattle.pipes.specs.declared.Tally.{Tally}
-use Rattle.pipes.specs.Tally.{started, isOpen, counted, stopped, Writes}
+use Rattle.pipes.specs.Tally.{started, isOpen, stopped, Writes}
 use Rattle.texts.specs.declared.Position.{Position}
 use Rattle.texts.specs.declared.Answered.{Answered}
 use Rattle.texts.specs.declared.Rest.{Rest}

@@ -5,7 +5,6 @@ use mathlib.Core.List.{List, [], _∷_, _++_, append-nil}
 use Prim.Native.Nat.{ℕ, suc, _+_, _<_, _≤_}
 use native.Mathlib.Omega.{arith}
 use borrow.Author.Tests.{le-leb, not-true, not-false, ltb-false}
-use lib.Dec.{ltb}
 use lib.ListN.{length, take, replicate, length-append, length-replicate}
 use lib.Seq.{length-take-le, take-all}
 use Rattle.refusal.specs.declared.Refusal.the-variants.{Form, Place}
@@ -19,7 +18,7 @@ use Rattle.memory.specs.Memory.{Memory, memoryOf}
 use Rattle.pipes.specs.declared.Flow.{Flow}
 use Rattle.pipes.specs.declared.Flow.the-variants.{Open, Ended, Unread, Unwritten, TooLong}
 use Rattle.pipes.specs.declared.Tally.{Tally}
-use Rattle.pipes.specs.Tally.{isOpen, isEnded, isUnread, written, stopped, Writes}
+use Rattle.pipes.specs.Tally.{isOpen, isEnded, isUnread, written, Writes}
 use Rattle.texts.specs.declared.Position.{Position}
 use Rattle.texts.specs.declared.Rest.{Rest}
 use Rattle.texts.specs.declared.Ran.{Ran}
@@ -28,9 +27,9 @@ use Rattle.texts.specs.Ends.{lineLength}
 use Rattle.texts.specs.LineLaws.{line-within}
 use Rattle.texts.specs.Running.{Filled, allBytes, fillClosing, fillRest, Fills}
 use Rattle.texts.specs.Sending.{mostLines, progressOf}
-use Rattle.texts.specs.Streaming.{lineRoom, Stream, fresh, onBytes, streamStart, onEnd, behindWritten}
+use Rattle.texts.specs.Streaming.{lineRoom, Stream, fresh, onBytes, streamStart, onEnd}
 use Rattle.texts.specs.StreamLaws.{on-line, stream-whole, end-apart}
-use Rattle.yindolve.specs.Program.{Finishes, Answers, AnswersSoFar, Ends}
+use Rattle.yindolve.specs.Program.{Finishes, Ends}
 use Rattle.yindolve.proofs.EndLaws.{Run}
 
 clash : {A : Type 0} {b : Bool} → b ≡ true → b ≡ false → A

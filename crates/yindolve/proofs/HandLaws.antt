@@ -1,31 +1,28 @@
 -- Laws of what is in hand from block to block.
-use mathlib.Core.Path.{_≡_, refl, sym, ap, subst, _∙_}
+use mathlib.Core.Path.{_≡_, refl, sym, ap, _∙_}
 use mathlib.Core.Bool.{Bool, true, false, cond, true≢false}
 use mathlib.Core.List.{List, [], _∷_, _++_, append-assoc, append-nil}
-use Prim.Native.Nat.{ℕ, suc, _+_, _*_, _-_, _<_, _≤_}
+use Prim.Native.Nat.{ℕ, _+_, _-_, _<_, _≤_}
 use native.Mathlib.Omega.{arith}
 use native.Mathlib.Decide.{decLt}
-use borrow.Author.Tests.{ltb-true, le-ltb}
 use lib.Dec.{ltb}
 use lib.ListN.{length, take, drop, length-append, length-drop, take-append-drop}
 use lib.Seq.{length-take-le, take-all, take-add}
 use Rattle.answers.specs.Writing.{mostBytes}
-use Rattle.session.specs.Texts.{Lines, linesOf, Progress, beginning}
+use Rattle.session.specs.Texts.{Progress}
 use Rattle.memory.specs.Memory.{Memory, workWords}
 use Rattle.pipes.specs.declared.Flow.{Flow}
-use Rattle.pipes.specs.declared.Flow.the-variants.{Open, Ended, Unread, Unwritten, TooLong}
+use Rattle.pipes.specs.declared.Flow.the-variants.{Ended, Unread, Unwritten, TooLong}
 use Rattle.pipes.specs.declared.Tally.{Tally}
-use Rattle.pipes.specs.Tally.{started, isOpen, counted, stopped, written, Got, Reads, Writes}
+use Rattle.pipes.specs.Tally.{isOpen, counted, stopped, written, Got, Reads, Writes}
 use Rattle.texts.specs.declared.Position.{Position}
 use Rattle.texts.specs.declared.Answered.{Answered}
 use Rattle.texts.specs.declared.Rest.{Rest}
 use Rattle.texts.specs.Ends.{lineLength}
-use Rattle.texts.specs.LineLaws.{line-within, lines-first, lines-none}
-use Rattle.texts.specs.Sending.{mostLines, progressOf, Going, Started}
+use Rattle.texts.specs.Sending.{mostLines, progressOf}
 use Rattle.texts.specs.Streaming.{lineRoom, Stream, fresh, onBytes, streamStart, restOf, Keeps, behindWritten}
 use Rattle.texts.specs.StreamLaws.{bytes-append, written-apart, rest-line}
-use Rattle.texts.specs.Whole.{Whole, wholeFrom, wholeOf, Answerable, Reaches}
-use Rattle.texts.specs.WholeLaws.{whole-some}
+use Rattle.texts.specs.Whole.{Whole, Answerable, Reaches}
 use Rattle.yindolve.specs.declared.Refilled.{Refilled}
 use Rattle.yindolve.specs.Program.{Refills, emptyAt, InHand}
 

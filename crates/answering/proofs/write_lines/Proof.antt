@@ -1,5 +1,4 @@
 use Rattle.answers.specs.Writing.{lineBytes}
-use native.Mathlib.Omega.{arith}
 use lib.ListN.{length}
 use Prim.Native.Nat.{_-_}
 use mathlib.Core.Path.{_≡_, refl, sym, _∙_}

@@ -1,6 +1,5 @@
 use Rattle.checking.proofs.TestLaws.{closed-few, copy-closable, closed-tells}
 use lib.Dec.{lit≤}
-use Prim.Native.Nat.{_/_, _*_}
 use native.Mathlib.Omega.{arith}
 use borrow.Author.Needs.{needs}
 use Rattle.diagram.specs.Sizes.{resultWords}

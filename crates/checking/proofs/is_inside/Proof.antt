@@ -1,5 +1,4 @@
 use Rattle.checking.proofs.TestLaws.{inside-no, inside-rest}
-use borrow.Author.Needs.{needs}
 use Rattle.checking.proofs.is_inside.Statement.{statement}
 use Rattle.checking.proofs.is_inside.Tie as tie
 

@@ -1,6 +1,6 @@
 use borrow.Author.Needs.{needs}
 use native.Mathlib.Omega.{arith}
-use Rattle.eliminate.proofs.BranchLaws.{branch-labelled, branch-words, branch-high, branch-low, branch-rowing, branch-full, branch-filling, branch-done}
+use Rattle.eliminate.proofs.BranchLaws.{branch-labelled, branch-high, branch-low, branch-rowing, branch-full, branch-filling, branch-done}
 use Rattle.eliminate.proofs.branch_table.Statement.{statement}
 use Rattle.eliminate.proofs.branch_table.Tie as tie
 
@@ -54,8 +54,9 @@ row-entries-requires c κs =
 returns : tie.Need-returns
 returns c =
     let row-entries = c .before .before .before .row-entries in
-    let variables = c .before .before .before .before .before .before .before .before .before .before .variables in
-    let pre = c .before .before .before .before .before .before .before .before .before .before .before .before .before .before .before .before .before .before .before .before .before .pre in
+    let past-10 = c .before .before .before .before .before .before .before .before .before .before in
+    let variables = past-10 .variables in
+    let pre = past-10 .before .before .before .before .before .before .before .before .before .before .before .pre in
     branch-full pre (variables .result) (variables .ensures) _ (row-entries .ensures) (c .if1 .taken)
 
 fill-requires : tie.Need-fill-requires
@@ -63,8 +64,9 @@ fill-requires c κs =
     let size = c .before .before .before .size in
     let if1 = c .before .before .before .before .if1 in
     let row-entries = c .before .before .before .before .before .before .before .row-entries in
-    let variables = c .before .before .before .before .before .before .before .before .before .before .before .before .before .before .variables in
-    let pre = c .before .before .before .before .before .before .before .before .before .before .before .before .before .before .before .before .before .before .before .before .before .before .before .before .before .pre in
+    let past-14 = c .before .before .before .before .before .before .before .before .before .before .before .before .before .before in
+    let variables = past-14 .variables in
+    let pre = past-14 .before .before .before .before .before .before .before .before .before .before .before .pre in
     branch-filling pre (variables .result) (variables .ensures) _ (row-entries .ensures) (if1 .left) (size .ensures) (c .size2 .ensures)
 
 returns-2 : tie.Need-returns-2
@@ -74,8 +76,9 @@ returns-2 c =
     let size = c .before .before .before .before .before .before .before .before .size in
     let if1 = c .before .before .before .before .before .before .before .before .before .if1 in
     let row-entries = c .before .before .before .before .before .before .before .before .before .before .before .before .row-entries in
-    let variables = c .before .before .before .before .before .before .before .before .before .before .before .before .before .before .before .before .before .before .before .variables in
-    let pre = c .before .before .before .before .before .before .before .before .before .before .before .before .before .before .before .before .before .before .before .before .before .before .before .before .before .before .before .before .before .before .pre in
+    let past-19 = c .before .before .before .before .before .before .before .before .before .before .before .before .before .before .before .before .before .before .before in
+    let variables = past-19 .variables in
+    let pre = past-19 .before .before .before .before .before .before .before .before .before .before .before .pre in
     branch-done pre (variables .result) (variables .ensures) _ (row-entries .ensures) (if1 .left) (size .ensures) (size2 .ensures) (fill .ensures)
 
 pub branch-table-spec : {M : Type 1} → statement M

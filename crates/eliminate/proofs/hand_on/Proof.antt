@@ -1,7 +1,7 @@
 use borrow.Author.Needs.{needs}
 use native.Mathlib.Omega.{arith}
 use lib.ListN.{length-set}
-use Rattle.eliminate.proofs.HandLaws.{hand-words, hand-leaf, hand-labelled, hand-high-in, hand-low-in, hand-done}
+use Rattle.eliminate.proofs.HandLaws.{hand-leaf, hand-labelled, hand-high-in, hand-low-in, hand-done}
 use Rattle.eliminate.proofs.hand_on.Statement.{statement}
 use Rattle.eliminate.proofs.hand_on.Tie as tie
 

@@ -19,21 +19,31 @@ work-row-requires : tie.Need-work-row-requires Inv-loop μ-loop
 work-row-requires c κs = go-working (c .before .before .before .before .loop .inv) (c .before .before .before .loop-test .taken)
 
 same-length : tie.Need-same-length Inv-loop μ-loop
-same-length c = c .before .before .before .before .before .before .before .before .work-row .kept .1 .1 .1 .1 .0 ∙ c .before .before .before .before .before .before .before .before .before .before .before .before .before .loop .inv .heads-kept
+same-length c =
+    let past-8 = c .before .before .before .before .before .before .before .before in
+    past-8 .work-row .kept .1 .1 .1 .1 .0 ∙ past-8 .before .before .before .before .before .loop .inv .heads-kept
 
 same-length-2 : tie.Need-same-length-2 Inv-loop μ-loop
-same-length-2 c = c .before .before .before .before .before .before .before .before .work-row .kept .1 .1 .1 .1 .1 .0 ∙ c .before .before .before .before .before .before .before .before .before .before .before .before .before .loop .inv .space-kept
+same-length-2 c =
+    let past-8 = c .before .before .before .before .before .before .before .before in
+    past-8 .work-row .kept .1 .1 .1 .1 .1 .0 ∙ past-8 .before .before .before .before .before .loop .inv .space-kept
 
 same-length-3 : tie.Need-same-length-3 Inv-loop μ-loop
-same-length-3 c = c .before .before .before .before .before .before .before .before .work-row .kept .1 .1 .1 .1 .1 .1 .0 ∙ c .before .before .before .before .before .before .before .before .before .before .before .before .before .loop .inv .env-kept
+same-length-3 c =
+    let past-8 = c .before .before .before .before .before .before .before .before in
+    past-8 .work-row .kept .1 .1 .1 .1 .1 .1 .0 ∙ past-8 .before .before .before .before .before .loop .inv .env-kept
 
 returns : tie.Need-returns Inv-loop μ-loop
-returns c = go-over (c .before .before .before .before .before .before .before .before .before .before .before .before .before .loop .inv) (c .before .before .before .before .before .before .before .before .before .before .before .before .loop-test .taken) (c .before .before .before .before .before .before .before .before .work-row .ensures) (c .enum-told .given .1)
+returns c =
+    let past-8 = c .before .before .before .before .before .before .before .before in
+    go-over (past-8 .before .before .before .before .before .loop .inv) (past-8 .before .before .before .before .loop-test .taken) (past-8 .work-row .ensures) (c .enum-told .given .1)
 
 loop-again : tie.Need-loop-again Inv-loop μ-loop
 loop-again c =
-    let w = c .before .before .before .before .before .before .before .before .before .work-row in
-    go-on (c .before .before .before .before .before .before .before .before .before .before .before .before .before .before .loop .inv) (c .before .before .before .before .before .before .before .before .before .before .before .before .before .loop-test .taken) (w .ensures) (c .before .a .given .1) (w .kept .1 .1 .1 .1 .0) (w .kept .1 .1 .1 .1 .1 .0) (w .kept .1 .1 .1 .1 .1 .1 .0)
+    let past-9 = c .before .before .before .before .before .before .before .before .before in
+    let w = past-9 .work-row in
+    go-on (past-9 .before .before .before .before .before .loop .inv) (past-9 .before .before .before .before .loop-test .taken) (w .ensures) (c .before .a .given .1)
+    (w .kept .1 .1 .1 .1 .0) (w .kept .1 .1 .1 .1 .1 .0) (w .kept .1 .1 .1 .1 .1 .1 .0)
 
 same-length-4 : tie.Need-same-length-4 Inv-loop μ-loop
 same-length-4 c = c .before .loop .inv .heads-kept

@@ -1,5 +1,4 @@
 use Prim.Native.Nat.{_-_}
-use native.Mathlib.Omega.{arith}
 use Rattle.state.specs.Lent.{factWords}
 use Rattle.facts.proofs.FactLaws.{Writing, writing-start, put-room, put-on, put-done}
 use borrow.Author.Needs.{needs}

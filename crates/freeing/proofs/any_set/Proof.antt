@@ -1,5 +1,4 @@
 use borrow.Author.Needs.{needs}
-use native.Mathlib.Omega.{arith}
 use Prim.Native.Nat.{_-_}
 use Rattle.freeing.specs.MarkLaws.{Passed, passed-start, passed-on, passed-some, passed-none}
 use Rattle.freeing.proofs.any_set.Statement.{statement}

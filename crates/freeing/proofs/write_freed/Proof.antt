@@ -1,4 +1,4 @@
-use Rattle.freeing.proofs.FreeLaws.{task-countable, task-renamable, task-written}
+use Rattle.freeing.proofs.FreeLaws.{task-renamable, task-written}
 use borrow.Author.Needs.{needs}
 use Rattle.freeing.proofs.write_freed.Statement.{statement}
 use Rattle.freeing.proofs.write_freed.Tie as tie

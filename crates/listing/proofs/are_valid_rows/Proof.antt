@@ -35,7 +35,15 @@ returns-2 : tie.Need-returns-2 Inv-loop μ-loop
 returns-2 c = search pass-twin
 
 loop-again : tie.Need-loop-again Inv-loop μ-loop
-loop-again c = (c .before .before .before .before .before .enter .kept .1 .0 ∙ c .before .before .before .before .before .before .before .before .before .before .before .loop .inv .0, c .before .before .before .before .before .enter .kept .1 .1 .0 ∙ c .before .before .before .before .before .before .before .before .before .before .before .loop .inv .1, pass-next (c .before .before .before .before .before .before .before .before .before .before .before .loop .inv .2) (c .before .before .before .before .before .before .before .before .before .before .loop-test .taken) (c .before .before .before .before .before .before .before .before .before .is-valid-row .ensures) (c .before .before .before .before .before .before .before .before .if1 .left) (c .before .before .before .before .before .enter .ensures) (c .if2 .left))
+loop-again c =
+    let past-5 = c .before .before .before .before .before in
+    let enter = past-5 .enter in
+    let tested = past-5 .before .before .before in
+    let inv = tested .before .before .before .loop .inv in (
+      enter .kept .1 .0 ∙ inv .0,
+      enter .kept .1 .1 .0 ∙ inv .1,
+      pass-next (inv .2) (tested .before .before .loop-test .taken) (tested .before .is-valid-row .ensures) (tested .if1 .left) (enter .ensures) (c .if2 .left),
+    )
 
 returns-3 : tie.Need-returns-3 Inv-loop μ-loop
 returns-3 c = search pass-end
@@ -43,5 +51,5 @@ returns-3 c = search pass-end
 pub are-valid-rows-spec : {M : Type 1} → statement M
 are-valid-rows-spec =
     tie.close
-    (tie.spec Inv-loop μ-loop loop-holds is-valid-row-requires (λ c. search needs)
-    (λ c. search needs) returns enter-requires same-length-3 same-length-4 returns-2 (λ c. search needs) (λ c. search needs) loop-again (λ c. search needs) (λ c. search needs) returns-3)
+    (tie.spec Inv-loop μ-loop loop-holds is-valid-row-requires (λ c. search needs) (λ c. search needs) returns enter-requires same-length-3 same-length-4 returns-2
+    (λ c. search needs) (λ c. search needs) loop-again (λ c. search needs) (λ c. search needs) returns-3)

@@ -4,7 +4,7 @@ use Prim.Native.Nat.{_-_, _<_}
 use lib.ListN.{length}
 use Rattle.label.specs.Limits.{mostPlaces}
 use borrow.Author.Needs.{needs}
-use Rattle.listing.proofs.MarkLaws.{MarkedTo, mark-leaf, predicate-below, predicate-within, few-places, place-within, places-start, places-whole, places-next, mark-branch}
+use Rattle.listing.proofs.MarkLaws.{MarkedTo, mark-leaf, predicate-below, predicate-within, few-places, place-within, places-start, places-next, mark-branch}
 use Rattle.listing.proofs.mark_row.Statement.{statement}
 use Rattle.listing.proofs.mark_row.Tie as tie
 

@@ -19,4 +19,5 @@ returns-3 c = search ask-label
 pub ask-spec : {M : Type 1} → statement M
 ask-spec =
     tie.close
-    (tie.spec returns (λ c κs. search needs) test-requires (λ c. search needs) (λ c κs. search needs) (λ c. search needs) (λ c κs. search needs) (λ c. search needs) returns-2 (λ c. search needs) returns-3)
+    (tie.spec returns (λ c κs. search needs) test-requires (λ c. search needs) (λ c κs. search needs) (λ c. search needs) (λ c κs. search needs) (λ c. search needs)
+    returns-2 (λ c. search needs) returns-3)

@@ -1,5 +1,4 @@
 use Rattle.restoring.proofs.TestLaws.{rooms-names, rooms-arities, rooms-listings, rooms-table, rooms-state, rooms-value}
-use borrow.Author.Needs.{needs}
 use Rattle.restoring.proofs.rooms_fit.Statement.{statement}
 use Rattle.restoring.proofs.rooms_fit.Tie as tie
 

@@ -1,5 +1,4 @@
 use Rattle.restoring.proofs.TestLaws.{rows-are}
-use borrow.Author.Needs.{needs}
 use Rattle.restoring.proofs.rows_fit.Statement.{statement}
 use Rattle.restoring.proofs.rows_fit.Tie as tie
 

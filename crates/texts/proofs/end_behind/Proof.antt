@@ -1,5 +1,3 @@
-use native.Mathlib.Omega.{arith}
-use borrow.Author.Needs.{needs}
 use Rattle.texts.proofs.MoveLaws.{behind-full, behind-end}
 use Rattle.texts.proofs.end_behind.Statement.{statement}
 use Rattle.texts.proofs.end_behind.Tie as tie

@@ -1,6 +1,5 @@
 use Prim.Native.Nat.{_-_}
 use native.Mathlib.Omega.{arith}
-use borrow.Author.Needs.{needs}
 use Rattle.texts.proofs.KeepLaws.{Moving, moving-first, moving-next, moving-done}
 use Rattle.texts.proofs.move_front.Statement.{statement}
 use Rattle.texts.proofs.move_front.Tie as tie

@@ -1,6 +1,5 @@
 use mathlib.Core.Path.{_∙_}
 use native.Mathlib.Omega.{arith}
-use borrow.Author.Needs.{needs}
 use Rattle.texts.proofs.RunLaws.{run-answerable, run-ending, run-ends}
 use Rattle.texts.proofs.run_in.Statement.{statement}
 use Rattle.texts.proofs.run_in.Tie as tie

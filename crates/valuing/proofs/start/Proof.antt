@@ -4,7 +4,7 @@ use Prim.Native.Nat.{_-_, _≤_}
 use lib.ListN.{length, length-set}
 use Rattle.label.specs.Limits.{firstVariable}
 use Rattle.valuing.specs.Search.{Placing}
-use Rattle.valuing.proofs.StartLaws.{placing-none, placing-on, placing-end}
+use Rattle.valuing.proofs.StartLaws.{placing-on, placing-end}
 use Rattle.valuing.proofs.start.Statement.{statement}
 use Rattle.valuing.proofs.start.Tie as tie
 

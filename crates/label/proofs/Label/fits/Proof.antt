@@ -1,7 +1,6 @@
 use native.Mathlib.Omega.{arith}
 use Prim.Native.Nat.{_-_, _≤_}
 use borrow.Author.Needs.{needs}
-use Rattle.label.specs.Limits.{mostPlaces}
 use Rattle.label.proofs.CodeLaws.{TermsTo, terms-more, fits-not-predicate, fits-not, fits-not-ended, fits-other, fits-equality}
 use Rattle.label.proofs.Label.fits.Statement.{statement}
 use Rattle.label.proofs.Label.fits.Tie as tie

@@ -1,4 +1,3 @@
-use mathlib.Core.Path.{sym}
 use borrow.Author.Needs.{needs}
 use Rattle.label.proofs.CodeLaws.{unpack-is}
 use Rattle.label.proofs.Label.unpack.Statement.{statement}
