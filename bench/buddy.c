@@ -142,8 +142,7 @@ static void compare(const char *name, Combination combination, BDD (*operation)(
         bdd_delref(second[i].bdd);
     }
     double whole = low(library), check = low(checks), other = low(buddy), per = (double)all / CASES;
-    printf("%-4s%8.0f%12.2f%14.1f%22.1f%14.2f%12.1f%12.2f\n", name, per, whole / 1e3, whole / per, (whole - check) / per, other / 1e3, other / per,
-        (whole - check) / other);
+    printf("| %s, %.0f | %.2f | %.1f | %.2f | %.1f | %.2f |\n", name, per, whole / 1e3, (whole - check) / per, other / 1e3, other / per, (whole - check) / other);
 }
 
 int main(void) {
@@ -153,7 +152,8 @@ int main(void) {
     bdd_setvarnum(VARIABLES);
     bdd_gbc_hook(collected);
     bdd_resize_hook(grown);
-    printf("%-12s%12s%14s%22s%14s%12s%12s\n", "", "library, us", "ns a pair", "check taken off", "BuDDy, us", "ns a pair", "ratio");
+    printf("\n### And, or beside BuDDy\n\n");
+    printf("| Operation, pairs on average | library, whole call, µs | check taken off, ns a pair | BuDDy, µs | ns a pair | ratio, check taken off |\n|---|---|---|---|---|---|\n");
     for (size_t i = 0; i < sizeof shapes / sizeof *shapes; i++) {
         compare("and", yindolve_product_shared, bdd_and, shapes[i][0], shapes[i][1]);
         compare("or", yindolve_max_shared, bdd_or, shapes[i][0], shapes[i][1]);

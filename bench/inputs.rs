@@ -186,3 +186,42 @@ pub fn facts(r: &mut Random, n: usize) -> Vec<u64> {
     };
     (0..n).flat_map(|_| fact()).collect()
 }
+
+/// A truth diagram for a predicate of two places: true where the first object is constant 0's, and where it was.
+pub fn taught() -> Vec<u64> {
+    let (x, y) = (FIRST_VARIABLE, FIRST_VARIABLE + 1);
+    vec![LEAF, 1, 0, LEAF, 0, 0, engine::label(1, &[x, y]), 0, 1, engine::label(0, &[0, x]), 0, 2]
+}
+
+/// The listing with each constant below 4 as a parameter.
+pub fn with_parameters(words: &[u64]) -> Vec<u64> {
+    let term = |t: u64| if t < 4 { 16 + t } else { t };
+    let label = |l: u64| if l == LEAF { l } else { engine::label(engine::predicate(l), &[term(engine::place(l, 0)), term(engine::place(l, 1))]) };
+    words.chunks(3).flat_map(|row| [label(row[0]), row[1], row[2]]).collect()
+}
+
+/// The words of rows as (show) prints them.
+pub fn rows(text: &str) -> Vec<u64> {
+    let row = |line: &str| {
+        let words: Vec<u64> = line.trim_matches(&['(', ')'][..]).split(' ').skip(2).map(|w| if w == "leaf" { LEAF } else { w.parse().unwrap() }).collect();
+        [words[0], words[1], words.get(2).copied().unwrap_or(0)]
+    };
+    text.lines().flat_map(row).collect()
+}
+
+/// Two paths to the same leaf: one asks for all ordered pairs of n variables, the other for those of n - 1 others. No edge may go, since the first does not cover the second.
+pub fn cliques(n: u64) -> Vec<u64> {
+    let pairs = |first: u64, n: u64| (0..n * n).filter(|k| k / n != k % n).map(|k| engine::label(1, &[FIRST_VARIABLE + first + k / n, FIRST_VARIABLE + first + k % n])).collect::<Vec<u64>>();
+    let mut words = vec![LEAF, 10, 0, LEAF, 0, 0];
+    let mut chain = |labels: &[u64]| {
+        for (k, label) in labels.iter().rev().enumerate() {
+            let below = if k == 0 { 0 } else { words.len() as u64 / 3 - 1 };
+            words.extend([*label, below, 1]);
+        }
+        words.len() as u64 / 3 - 1
+    };
+    let first = pairs(0, n);
+    let (on_true, on_false) = (chain(&first[1..]), chain(&pairs(n, n - 1)));
+    words.extend([first[0], on_true, on_false]);
+    words
+}

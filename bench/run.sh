@@ -1,30 +1,40 @@
 #!/usr/bin/env bash
-# The benchmark: builds the static library, calls it once from C, links it with the same tables in Rust and prints how the two compare; then the program's lines.
+# The benchmark, one command: every table of docs/PERFORMANCE.md, as Markdown. Builds the proved library and program, the same sources as plain Rust (plain.sh) and the independent
+# implementation (host/reference), compares what they answer, and takes times: calls (main.rs), and, or beside BuDDy (buddy.c), texts (texts.sh).
 set -euo pipefail
 cd "$(dirname "$0")/.."
+room=target/bench
+mkdir -p $room
 
-mkdir -p target/bench
-rt staticlib c_library >target/bench/staticlib.log 2>&1 || { tail -n 20 target/bench/staticlib.log; exit 1; }
-cc -Wall -Wextra -Iinclude -o target/bench/calls bench/calls.c target/staticlib/libc_library.a
-target/bench/calls
-rustc --edition 2021 -A dead_code -C opt-level=3 -o target/bench/main bench/main.rs -L target/staticlib -l static=c_library
-target/bench/main
-# all cuts of the first value diagram of examples/logistics.txt; the arities are those of on, tin, bin and rain
-rustc --edition 2021 -C opt-level=3 -o target/bench/cuts bench/cuts.rs -L target/staticlib -l static=c_library
-target/bench/cuts 2 2 2 0 <bench/logistics.rows
-# two of the long cuts of host/corpus/cut-long: no edge may go
-target/bench/cuts 2 <bench/chain.rows
-target/bench/cuts 2 <bench/ladder.rows
-# values of sixty objects, by tables
-rustc --edition 2021 -C opt-level=3 -o target/bench/tables bench/tables.rs -L target/staticlib -l static=c_library
-target/bench/tables
-# and, or beside BuDDy, where its header is there
-if echo '#include <bdd.h>' | cc -E - >target/bench/bdd.i 2>&1; then
-    cc -O2 -Wall -Wextra -Iinclude -o target/bench/buddy bench/buddy.c target/staticlib/libc_library.a -lbdd
-    target/bench/buddy
+# proved COMMAND..: silent, unless it fails
+proved() { "$@" >$room/log 2>&1 || { tail -n 20 $room/log; exit 1; }; }
+proved rt staticlib c_library
+proved rt check yindolve
+
+SECONDS=0
+library=(-L target/staticlib -l static=c_library)
+rust() { rustc --edition 2021 -C opt-level=3 "$@"; }
+bash bench/plain.sh >$room/plain.rs
+rust -A warnings --crate-type rlib --crate-name plain -o $room/libplain.rlib $room/plain.rs &
+echo 'fn main() { yindolve::main() }' | cat $room/plain.rs - >$room/program.rs
+rust -A warnings -o $room/program $room/program.rs
+wait $!
+rust --crate-type rlib --crate-name reference -o $room/libreference.rlib host/reference/src/lib.rs
+rust -o $room/reference host/reference/src/main.rs --extern reference=$room/libreference.rlib
+rust -A dead_code -o $room/main bench/main.rs "${library[@]}" --extern plain=$room/libplain.rlib --extern reference=$room/libreference.rlib
+cc -Wall -Wextra -Iinclude -o $room/calls bench/calls.c target/staticlib/libc_library.a
+$room/calls >$room/log
+
+kit=$(dirname "$(realpath "$(command -v rt)")")/../on/$(uname -m)
+echo "Processor: $(sed -n 's/^model name[^:]*: //p' /proc/cpuinfo | head -n 1), $(nproc) cores, load $(cut -d ' ' -f 1 /proc/loadavg)."
+echo "Compilers: the library and the program by Rattle with $("$kit/toolchain/bin/clang" --version | head -n 1), Rust by $(rustc --version), C by $(cc --version | head -n 1)."
+mapfile -t models < <(bash bench/models.sh)
+$room/main "${models[@]}"
+if echo '#include <bdd.h>' | cc -E - >$room/log 2>&1; then
+    cc -O2 -Wall -Wextra -Iinclude -o $room/buddy bench/buddy.c target/staticlib/libc_library.a -lbdd
+    $room/buddy
 else
-    echo "no BuDDy (libbdd-dev): the comparison with it is left out"
+    printf '\nNo BuDDy (libbdd-dev) here: the comparison with it is left out.\n'
 fi
-# lines of texts, by the program
-rt check yindolve >target/bench/program.log 2>&1 || { tail -n 20 target/bench/program.log; exit 1; }
-bash bench/texts.sh target/bin/yindolve
+bash bench/texts.sh target/bin/yindolve $room/program $room/reference
+printf '\nTaken in %d s, proofs apart.\n' $SECONDS

@@ -1,20 +1,10 @@
-//! Values by tables (document 02, L6): sixty objects, tests of one variable each and of a relation, beside a plain loop over all valuations where that ends.
-
-use std::hint::black_box;
-use std::time::Instant;
-
-extern "C" {
-    fn yindolve_value(
-        arities: *const u64, arities_count: usize, words: *const u64, words_count: usize, objects: u64, constants: *const u64, constants_count: usize,
-        facts: *const u64, facts_count: usize, value: *mut u64,
-    ) -> u64;
-}
+//! Values by tables (document 02, L6): sixty objects, tests of one variable each and of a relation, and a plain loop over all valuations.
 
 const LEAF: u64 = u64::MAX;
 const FIRST_VARIABLE: u64 = 64;
-const OBJECTS: u64 = 60;
+pub const OBJECTS: u64 = 60;
 /// p is predicate 1 of one place, r predicate 2 of two.
-const ARITIES: [u64; 32] = {
+pub const ARITIES: [u64; 32] = {
     let mut arities = [0; 32];
     arities[0] = 2;
     arities[1] = 1;
@@ -35,18 +25,8 @@ fn conjunction(labels: &[u64]) -> Vec<u64> {
     words
 }
 
-fn library(words: &[u64], facts: &[u64]) -> Result<u64, u64> {
-    let mut value = 0;
-    let answer = unsafe {
-        yindolve_value(
-            ARITIES.as_ptr(), 32, words.as_ptr(), words.len(), OBJECTS, [0; 16].as_ptr(), 16, facts.as_ptr(), facts.len(), &mut value,
-        )
-    };
-    if answer == 0 { Ok(value) } else { Err(answer) }
-}
-
 /// The highest leaf, valuation by valuation; the facts are in a table of bits beforehand.
-fn plain(words: &[u64], variables: u32, facts: &[u64]) -> u64 {
+pub fn plain(words: &[u64], variables: u32, facts: &[u64]) -> u64 {
     let n = OBJECTS as usize;
     let (mut p, mut r) = (vec![false; n], vec![false; n * n]);
     for fact in facts.chunks(7) {
@@ -68,31 +48,18 @@ fn plain(words: &[u64], variables: u32, facts: &[u64]) -> u64 {
     }
 }
 
-/// The least time of some calls.
-fn least(times: usize, mut call: impl FnMut()) -> f64 {
-    (0..times).map(|_| { let start = Instant::now(); call(); start.elapsed().as_nanos() as f64 / 1000.0 }).fold(f64::MAX, f64::min)
-}
-
-fn main() {
+/// What is asked, the listing, the facts and how many variables it has; leaf 2 is the value.
+pub fn cases() -> Vec<(&'static str, Vec<u64>, Vec<u64>, u32)> {
     let unary = |count: u64| (0..count).map(|v| label(1, [FIRST_VARIABLE + v, 0])).collect::<Vec<u64>>();
     let mut related = unary(2);
     related.push(label(2, [FIRST_VARIABLE + 2, FIRST_VARIABLE + 3]));
     let facts = [[1, 59, 0, 0, 0, 0, 0], [2, 58, 59, 0, 0, 0, 0]].concat();
-    println!("\n{:<50}{:>12}{:>24}", "value by tables, 60 objects", "library, us", "all valuations, us");
-    for (what, labels, variables) in [
+    [
         ("4 tests of one variable each", unary(4), 4),
         ("16 tests of one variable each", unary(16), 16),
         ("62 tests of one variable each", unary(62), 62),
-        ("2 tests of one variable, 1 of a relation", related, 4),
-    ] {
-        let words = conjunction(&labels);
-        let value = library(&words, &facts);
-        let time = least(200, || { let _ = black_box(library(black_box(&words), &facts)); });
-        let loop_time = (variables <= 4).then(|| {
-            assert_eq!(value, Ok(plain(&words, variables, &facts)), "the values differ");
-            format!("{:.0}", least(3, || { black_box(plain(black_box(&words), variables, &facts)); }))
-        });
-        assert_eq!(value, Ok(2));
-        println!("{what:<50}{time:>12.1}{:>24}", loop_time.unwrap_or("-".to_string()));
-    }
+        ("2 tests of one variable each and one of a relation", related, 4),
+    ]
+    .map(|(what, labels, variables)| (what, conjunction(&labels), facts.clone(), variables))
+    .into()
 }
