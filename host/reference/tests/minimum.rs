@@ -1,5 +1,7 @@
 //! Minimum variables (document 02, L12): numbers of diagrams by hand, closing up, moving apart and freeing kind by kind, and what is refused.
 
+mod trees;
+
 use reference::calls::{self, Lent};
 use reference::combine::{combine, Combined, Names, Operator};
 use reference::cut::cut;
@@ -12,8 +14,8 @@ use reference::session::run;
 use reference::slips::Slips;
 use reference::state::{by_valuations, value, State};
 use reference::terms::{Arities, Label, Term, EQUALITY, FIRST_MINIMUM, FIRST_PARAMETER, FIRST_VARIABLE, LAST_MINIMUM, PREDICATES};
-use reference::tree::Tree;
 use std::collections::{BTreeMap, BTreeSet};
+use trees::{number, read, when};
 
 const P: Term = FIRST_PARAMETER;
 const X: Term = FIRST_VARIABLE;
@@ -24,18 +26,6 @@ fn arities() -> Arities {
     let mut arities = [0; PREDICATES];
     arities[..4].copy_from_slice(&[2, 1, 2, 6]);
     arities
-}
-
-fn number(value: u64) -> Tree {
-    Tree::Number(value)
-}
-
-fn when(predicate: u64, terms: &[Term], yes: Tree, no: Tree) -> Tree {
-    Tree::If { predicate, terms: terms.to_vec(), yes: Box::new(yes), no: Box::new(no) }
-}
-
-fn read(tree: Tree) -> Diagram {
-    tree.read().expect("a small diagram")
 }
 
 /// 5 where r relates the two, else 0.

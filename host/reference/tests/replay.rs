@@ -1,5 +1,7 @@
 //! Replay of a log (document 02, L10): next states, weights and sums by hand.
 
+mod trees;
+
 use reference::diagram::{Diagram, LARGEST};
 use reference::mdp::Variant;
 use reference::refusal::Refusal;
@@ -7,8 +9,8 @@ use reference::replay::{did, next_state, weight, Done, Log};
 use reference::slips::Slips;
 use reference::state::State;
 use reference::terms::{Arities, Term, EQUALITY, FIRST_PARAMETER, FIRST_VARIABLE, PREDICATES};
-use reference::tree::Tree;
 use std::collections::{BTreeMap, BTreeSet};
+use trees::{number, read, when};
 
 const A: Term = FIRST_PARAMETER;
 const X: Term = FIRST_VARIABLE;
@@ -19,18 +21,6 @@ fn arities() -> Arities {
     let mut arities = [0; PREDICATES];
     arities[..3].copy_from_slice(&[2, 1, 2]);
     arities
-}
-
-fn number(value: u64) -> Tree {
-    Tree::Number(value)
-}
-
-fn when(predicate: u64, terms: &[Term], yes: Tree, no: Tree) -> Tree {
-    Tree::If { predicate, terms: terms.to_vec(), yes: Box::new(yes), no: Box::new(no) }
-}
-
-fn read(tree: Tree) -> Diagram {
-    tree.read().expect("a small diagram")
 }
 
 fn state(objects: u64, facts: &[(u64, &[u64])]) -> State {

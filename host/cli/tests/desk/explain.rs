@@ -45,7 +45,7 @@ const REASONS: &str = "\
 FILE:3:12: form (1): \"Stock\" holds upper-case letters; a name has 1 to 15 lower-case letters or digits, a letter first; ?name is a variable, %name a minimum variable, !name a parameter
 FILE:7:14: name (2): no predicate \"stok\" is declared; did you mean \"stock\"? Otherwise declare it on an earlier line: (predicate stok ARITY)
 FILE:8:14: arity (3): \"stock\" is of arity 1, and here it has 2 terms; (predicate stock 1) says how many; write as many or change the declaration
-FILE:9:20: unbound (6): the reward names a parameter, \"!d\"; a reward names constants and variables only: write ?name
+FILE:9:20: unbound (6): the reward names a parameter, \"!d\"; a reward names constants and variables only: write ?name or %name
 FILE:10:9: form (1): this (if ..) has no false side; the form is (reward DIAGRAM); a diagram is a number or (if ATOM DIAGRAM DIAGRAM)
 FILE:11:30: form (1): 1 bracket is not closed at the end of the line; a form stands on one line; close it there
 FILE:15:26: unbound (6): a weight names a variable, \"?x\"; a weight names constants and the action's parameters only: write !name

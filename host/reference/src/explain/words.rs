@@ -222,7 +222,7 @@ fn known_constant(declared: &Declarations, word: &Word) -> Result<usize, Fault> 
             return name_fault(
                 word,
                 format!("\"{name}\" is a predicate, and here a constant should stand"),
-                "take a constant's name, or ?name for a variable",
+                "take a constant's name, or ?name or %name for a variable",
             );
         }
         undeclared(word, "constant", &format!("(constant {name})"), declared.constants.iter().map(String::as_str))
@@ -310,7 +310,7 @@ impl Reader<'_> {
         let Some(action) = self.action else {
             return unbound(
                 format!("the reward names a parameter, \"!{name}\""),
-                "a reward names constants and variables only: write ?name".into(),
+                "a reward names constants and variables only: write ?name or %name".into(),
             );
         };
         if action.parameters.iter().any(|parameter| parameter == name) {
