@@ -19,7 +19,7 @@ use Rattle.diagram.specs.Validity.{tree}
 use Rattle.diagram.specs.Variables.{closed}
 use Rattle.apply.specs.declared.Combined.the-variants.{Done, Refused}
 use Rattle.apply.specs.Combination.{written}
-use Rattle.rename.specs.ClosingLaws.{closed-count as fine-count}
+use Rattle.rename.specs.ClosingLaws.{closed-count}
 use Rattle.write.specs.declared.Listed.{Listed}
 use Rattle.write.specs.declared.Listed.the-variants.{Rows, TooMany}
 use Rattle.write.specs.Numbering.{Unmarked}
@@ -27,10 +27,6 @@ use Rattle.write.specs.Renaming.{listedIn}
 use Rattle.write.specs.Writing as write
 use Rattle.write.specs.Writing.{writeAnswer, writeWords, WritePost}
 use Rattle.apart.specs.Results.{Closable, Regular, Writable, resultAnswer, ResultWritten}
-
--- closing up keeps the count of rows
-pub closed-count : (ar : List ℕ) (d : Diagram) → Regular ar d → length (rows (closed ar d)) ≡ length (rows d)
-closed-count ar d g = fine-count ar d (g .arities) (g .fine)
 
 regular-good : (ar : List ℕ) (d : Diagram) → Regular ar d → length (rows d) ≤ mostRows → Good ar d
 regular-good ar d g h = record { arities = g .arities; ordered = g .ordered; reduced = g .reduced; fine = g .fine; few = h }
@@ -63,13 +59,16 @@ module _ (d : Diagram) (out : List ℕ) where
 
 -- the laws of `resultAnswer`
 module _ (ar : List ℕ) (d : Diagram) (g : Regular ar d) (p : ℕ) where
+  count : length (rows (closed ar d)) ≡ length (rows d)
+  count = closed-count ar d (g .arities) (g .fine)
+
   answer-many : mostRows < length (rows d) → Refused Space ≡ resultAnswer ar d p
   unfolding resultAnswer
-  answer-many h = rw (lt-ltb mostRows (length (rows (closed ar d))) (omega (arith, closed-count ar d g)))
+  answer-many h = rw (lt-ltb mostRows (length (rows (closed ar d))) (omega (arith, count)))
 
   answer-few : length (rows d) ≤ mostRows → Done (length (rows d)) p ≡ resultAnswer ar d p
   unfolding resultAnswer
-  answer-few h = rw (le-ltb mostRows (length (rows (closed ar d))) (omega (arith, closed-count ar d g)), closed-count ar d g)
+  answer-few h = rw (le-ltb mostRows (length (rows (closed ar d))) (omega (arith, count)), count)
 
 -- no row is marked in a new array
 pub unmarked-made : (n : ℕ) → spaceRows ≤ n → Unmarked (replicate n 0)
@@ -122,7 +121,7 @@ module _ {ar s out : List ℕ} {count root : ℕ} (g : Writable ar s count root 
       result-done p {out″} q =
           let d = tree s root in
           let l : listedIn out′ m ≡ d = ap diagramOf taken ∙ diagram-listing ar d result-good in
-          let n : m * 3 ≡ length (listing (closed ar d)) = omega (arith, length-listing (closed ar d), closed-count ar d (g .regular), rows-few .1) in
+          let n : m * 3 ≡ length (listing (closed ar d)) = omega (arith, length-listing (closed ar d), closed-count ar d (g .regular .arities) (g .regular .fine), rows-few .1) in
           record {
             answer = ap (λ (k : ℕ). Done k p) (rows-few .1) ∙ answer-few ar d (g .regular) p (rows-few .0);
             words = q ∙ (λ i. listing (closed ar (l i)) ++ dropped i) ∙ ap (λ (k : ℕ). listing (closed ar d) ++ drop k out) n;

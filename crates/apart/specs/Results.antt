@@ -20,6 +20,8 @@ use Rattle.apply.specs.declared.Combined.the-variants.{Done, Refused}
 use Rattle.apply.specs.Apply.{apply}
 use Rattle.apply.specs.Pairs.{pairs, pairCount, overflows}
 use Rattle.apply.specs.Combination.{operate, written}
+use Rattle.store.specs.declared.Formed.{Formed}
+use Rattle.store.specs.declared.Formed.the-variants.{Row}
 use Rattle.store.specs.Space.{diagramsOf, Holds}
 
 -- what `close_up` requires: the first m rows of the buffer are a listing
@@ -33,6 +35,16 @@ pub record Regular (ar : List ℕ) (d : Diagram) : Type 0 where
   pub ordered : Ordered d
   pub reduced : Reduced d
   pub fine : Fine ar d
+
+-- the diagram d has a row among those of the space, and the answer r names it and their count: there was room
+pub record Stands (d : Diagram) (r : Formed) (s : List ℕ) : Type 0 where
+  pub root : ℕ
+  pub count : ℕ
+  pub answer : r ≡ Row root count
+  pub there : root < count
+  pub within : count ≤ spaceRows
+  pub is : tree s root ≡ d
+  pub written : Written s (diagramsOf s count)
 
 -- what `write_result` requires: the result is a row of the space, and there is room for its listing
 pub record Writable (ar s : List ℕ) (count root : ℕ) (out : List ℕ) : Type 0 where

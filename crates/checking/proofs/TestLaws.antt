@@ -31,7 +31,7 @@ use Rattle.diagram.specs.Listings.{is-listing-diagram, is-listing-good, one-dia
 use Rattle.diagram.specs.Variables.{closed}
 use Rattle.listing.specs.Check.{Decides}
 use Rattle.listing.specs.Used.{Used}
-use Rattle.rename.specs.ClosingLaws.{closed-good}
+use Rattle.rename.specs.ClosingLaws.{closed-count, closed-good}
 use Rattle.write.specs.Renaming.{listedIn}
 use Rattle.apart.specs.Results.{Closable}
 use Rattle.truths.specs.declared.Verdict.{Verdict}
@@ -41,7 +41,6 @@ use Rattle.freeing.specs.FreeTasks.{anySet}
 use Rattle.freeing.specs.MarkLaws.{used-any}
 use Rattle.truths.specs.TruthChecks.{verdictOn}
 use Rattle.mdp.specs.Model.{mostActions, mostVariants}
-use Rattle.mdp.specs.CallLaws.{closed-count}
 use Rattle.model.specs.Layout.{part, variantWords, actionWords, tableWords, variantPlace, weightWords, variantsOf}
 use Rattle.checking.specs.Fitting.{ownParameters, isTruth, isWeight, isValue, truthAt, truthFits, variantFits, actionFits}
 use Rattle.checking.specs.Lent.{Lent}

@@ -1,7 +1,7 @@
 -- Laws of the functions that choose an edge.
 use mathlib.Core.Path.{_≡_, refl, sym, ap, subst, _∙_}
 use mathlib.Core.Logic.{_≢_}
-use mathlib.Core.Bool.{Bool, true, false, not, _&&_, _||_, or-true}
+use mathlib.Core.Bool.{Bool, true, false, not, _&&_, _||_, and-false, or-true}
 use mathlib.Core.List.{List}
 use Prim.Native.Nat.{ℕ, zero, suc, _+_, _-_, _*_, _≤_, _<_}
 use native.Mathlib.Omega.{arith}
@@ -25,10 +25,6 @@ use Rattle.matcher.specs.Stored.{Enterable}
 use Rattle.matcher.specs.Covering.{Held}
 use Rattle.cut.specs.Choosing.{pathOf, Sides, Known, Asking, Facing, Edged, Tested, isCoverOn, coverBelow, isFreeOn, freeBelow}
 use Rattle.cut.specs.ChoosingLaws.{child-before, may-go-is}
-
-and-false : (a : Bool) → (a && false) ≡ false
-and-false true = refl
-and-false false = refl
 
 -- `find_sides`
 pub sides-none : (ws sides : List ℕ) (n r : ℕ) → Sides ws sides n 0 r

@@ -4,14 +4,13 @@ use mathlib.Core.Bool.{Bool}
 use mathlib.Core.List.{List}
 use Prim.Native.Nat.{ℕ, pred, _+_, _≤_, _<_}
 use lib.ListN.{length, getD}
-use Rattle.diagram.specs.Sizes.{mostRows, spaceRows, spaceWords}
+use Rattle.diagram.specs.Sizes.{mostRows, spaceWords}
 use Rattle.diagram.specs.Diagram.{Diagram, leaf}
 use Rattle.diagram.specs.Words.{rowCount}
 use Rattle.diagram.specs.Validity.{tree}
-use Rattle.diagram.specs.RowLists.{Written}
 use Rattle.store.specs.declared.Formed.{Formed}
-use Rattle.store.specs.declared.Formed.the-variants.{Row}
-use Rattle.store.specs.Space.{diagramsOf, Holds}
+use Rattle.store.specs.Space.{Holds}
+use Rattle.apart.specs.Results.{Stands}
 use Rattle.cutting.specs.Cut.{reduced, cutAt}
 use Rattle.paths.specs.Routes.{Rows}
 
@@ -41,10 +40,4 @@ pub record Leavable (ws : List ℕ) (k : ℕ) (s : List ℕ) : Type 0 where
 
 -- what is left of the last row has its place; there is always room
 pub record Left (ws : List ℕ) (k : ℕ) (b : Bool) (r : Formed) (s : List ℕ) : Type 0 where
-  pub root : ℕ
-  pub count : ℕ
-  pub answer : r ≡ Row root count
-  pub there : root < count
-  pub within : count ≤ spaceRows
-  pub is : tree s root ≡ leftOf (tree ws k) b (tree ws (pred (rowCount ws)))
-  pub written : Written s (diagramsOf s count)
+  pub stands : Stands (leftOf (tree ws k) b (tree ws (pred (rowCount ws)))) r s

@@ -20,7 +20,7 @@ use Rattle.diagram.specs.Rows.{rows, onto}
 use Rattle.diagram.specs.Listing.{Fine, Good as Listed}
 use Rattle.diagram.specs.Variables.{occurs, variables, minimums, isPlain, closed, after}
 use Rattle.rename.specs.Freeing.{freed, Freeable}
-use Rattle.rename.specs.ClosingLaws.{closed-count as fine-count, closed-good, closed-twice, after-fit, after-good}
+use Rattle.rename.specs.ClosingLaws.{closed-count, closed-good, closed-twice, after-fit, after-good}
 use Rattle.rename.specs.FreeingLaws.{freed-good}
 use Rattle.apply.specs.declared.Operation.{Operation}
 use Rattle.apply.specs.declared.Operation.the-variants.{Sum, Product, Max}
@@ -82,12 +82,6 @@ leaf-within c ar x = record { terms = tt }
 pub leaf-value : (ar : List ℕ) (s : State) (x : ℕ) (θ : ℕ → ℕ) → value s (meaning ar (leaf x)) θ ≡ x
 unfolding value meaning relabel eval
 leaf-value ar s x θ = refl
-
--- ===== Closing up =====
-
--- closing up changes no count of rows
-pub closed-count : (ar : List ℕ) (d : Diagram) → areArities ar ≡ true → Fine ar d → length (rows (closed ar d)) ≡ length (rows d)
-closed-count ar d good fine = fine-count ar d good fine
 
 -- ===== Combination, names shared =====
 

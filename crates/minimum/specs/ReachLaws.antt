@@ -21,60 +21,41 @@ pub data Reach (n : ℕ) : List ℕ → (ℕ → ℕ) → (ℕ → ℕ) → Type
   done : {θ : ℕ → ℕ} → Reach n [] θ θ
   give : {v : ℕ} {vs : List ℕ} {θ η : ℕ → ℕ} (o : ℕ) → o < n → Reach n vs (put θ v o) η → Reach n (v ∷ vs) θ η
 
-reach-none : (n : ℕ) (P : (ℕ → ℕ) → Type 0) {θ η : ℕ → ℕ} → Reach n [] θ η → P θ → P η
-reach-none n P done p = p
+-- a number for each list and valuation that is f with no variable, and else the number of the other variables with some object for the first, is attained: so are the highest
+-- and the lowest
+module _ {n : ℕ} {f : (ℕ → ℕ) → ℕ} (all : List ℕ → (ℕ → ℕ) → ℕ) (none : (θ : ℕ → ℕ) → f θ ≡ all [] θ)
+    (next : (v : ℕ) (vs : List ℕ) (θ : ℕ → ℕ) → (o : ℕ) × (o < n) × (all vs (put θ v o) ≡ all (v ∷ vs) θ)) where
+  reach-attains : (vs : List ℕ) (θ : ℕ → ℕ) → (η : ℕ → ℕ) × Reach n vs θ η × (f η ≡ all vs θ)
+  reach-attains [] θ = (θ, done, none θ)
+  reach-attains (v ∷ vs) θ =
+      let o = next v vs θ in
+      let r = reach-attains vs (put θ v (o .0)) in
+      (r .0, give (o .0) (o .1) (r .1), r .2 ∙ o .2)
 
-pub maxVals-reach : (n : ℕ) → 0 < n → (f : (ℕ → ℕ) → ℕ) (vs : List ℕ) (θ : ℕ → ℕ) → IsMax (Reach n vs θ) f (maxVals n vs θ f)
-unfolding maxVals
-maxVals-reach n h f [] θ = record {
-  point = θ;
-  inside = done;
-  value = refl;
-  bound = λ η r. reach-none n (λ μ. f μ ≤ f θ) r (le-refl (f θ));
-}
-maxVals-reach n h f (v ∷ vs) θ = build (λ o. maxVals-reach n h f vs (put θ v o))
-  where
-    g : ℕ → ℕ
-    g o = maxVals n vs (put θ v o) f
+module _ (n : ℕ) (h : 0 < n) (f : (ℕ → ℕ) → ℕ) where
+  maxVals-bound : {vs : List ℕ} {θ η : ℕ → ℕ} → Reach n vs θ η → f η ≤ maxVals n vs θ f
+  unfolding maxVals
+  maxVals-bound (done {θ = θ}) = le-refl (f θ)
+  maxVals-bound (give {v = v} {vs = vs} {θ = θ} o l r) = le-trans (maxVals-bound r) (maxTo-is n (λ u. maxVals n vs (put θ v u) f) h .bound o l)
 
-    build : ((o : ℕ) → IsMax (Reach n vs (put θ v o)) f (g o)) → IsMax (Reach n (v ∷ vs) θ) f (maxVals n (v ∷ vs) θ f)
-    build rec =
-        let top = maxTo-is n g h in
-        record {
-          point = rec (top .point) .point;
-          inside = give (top .point) (top .inside) (rec (top .point) .inside);
-          value = rec (top .point) .value ∙ top .value;
-          bound = all;
-        }
-      where
-        all : (η : ℕ → ℕ) → Reach n (v ∷ vs) θ η → f η ≤ maxVals n (v ∷ vs) θ f
-        all η (give o l r) = le-trans (rec o .bound η r) (maxTo-is n g h .bound o l)
+  minVals-bound : {vs : List ℕ} {θ η : ℕ → ℕ} → Reach n vs θ η → minVals n vs θ f ≤ f η
+  unfolding minVals
+  minVals-bound (done {θ = θ}) = le-refl (f θ)
+  minVals-bound (give {v = v} {vs = vs} {θ = θ} o l r) = le-trans (minTo-is n (λ u. minVals n vs (put θ v u) f) h .bound o l) (minVals-bound r)
 
-pub minVals-reach : (n : ℕ) → 0 < n → (f : (ℕ → ℕ) → ℕ) (vs : List ℕ) (θ : ℕ → ℕ) → IsMin (Reach n vs θ) f (minVals n vs θ f)
-unfolding minVals
-minVals-reach n h f [] θ = record {
-  point = θ;
-  inside = done;
-  value = refl;
-  bound = λ η r. reach-none n (λ μ. f θ ≤ f μ) r (le-refl (f θ));
-}
-minVals-reach n h f (v ∷ vs) θ = build (λ o. minVals-reach n h f vs (put θ v o))
-  where
-    g : ℕ → ℕ
-    g o = minVals n vs (put θ v o) f
+  pub maxVals-reach : (vs : List ℕ) (θ : ℕ → ℕ) → IsMax (Reach n vs θ) f (maxVals n vs θ f)
+  unfolding maxVals
+  maxVals-reach vs θ =
+      let a = reach-attains (λ us μ. maxVals n us μ f) (λ μ. refl)
+      (λ v us μ. let top = maxTo-is n (λ o. maxVals n us (put μ v o) f) h in (top .point, top .inside, top .value)) vs θ in
+      record { point = a .0; inside = a .1; value = a .2; bound = λ η r. maxVals-bound r }
 
-    build : ((o : ℕ) → IsMin (Reach n vs (put θ v o)) f (g o)) → IsMin (Reach n (v ∷ vs) θ) f (minVals n (v ∷ vs) θ f)
-    build rec =
-        let top = minTo-is n g h in
-        record {
-          point = rec (top .point) .point;
-          inside = give (top .point) (top .inside) (rec (top .point) .inside);
-          value = rec (top .point) .value ∙ top .value;
-          bound = all;
-        }
-      where
-        all : (η : ℕ → ℕ) → Reach n (v ∷ vs) θ η → minVals n (v ∷ vs) θ f ≤ f η
-        all η (give o l r) = le-trans (minTo-is n g h .bound o l) (rec o .bound η r)
+  pub minVals-reach : (vs : List ℕ) (θ : ℕ → ℕ) → IsMin (Reach n vs θ) f (minVals n vs θ f)
+  unfolding minVals
+  minVals-reach vs θ =
+      let a = reach-attains (λ us μ. minVals n us μ f) (λ μ. refl)
+      (λ v us μ. let low = minTo-is n (λ o. minVals n us (put μ v o) f) h in (low .point, low .inside, low .value)) vs θ in
+      record { point = a .0; inside = a .1; value = a .2; bound = λ η r. minVals-bound r }
 
 -- such a choice is a valuation, and changes nothing below the list
 pub reach-keeps : {n : ℕ} (m : ℕ) {vs : List ℕ} {θ η : ℕ → ℕ} → Reach n vs θ η → Each (λ v. m ≤ v) vs → (t : ℕ) → t < m → η t ≡ θ t

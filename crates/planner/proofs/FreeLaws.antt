@@ -13,7 +13,7 @@ use Rattle.diagram.specs.Listing.{listing, diagramOf, Good}
 use Rattle.diagram.specs.ListingValid.{listing-is-valid}
 use Rattle.diagram.specs.Listings.{is-listing-good}
 use Rattle.diagram.specs.Variables.{closed}
-use Rattle.rename.specs.ClosingLaws.{closed-good}
+use Rattle.rename.specs.ClosingLaws.{closed-count, closed-good}
 use Rattle.regression.specs.declared.Freed.{Freed}
 use Rattle.regression.specs.declared.Freed.the-variants.{Done as FreedDone, Refused as NotFreed}
 use Rattle.regression.specs.RegressCall.{writtenAs, freedAs, freeOwn, freedOutcome}
@@ -21,7 +21,7 @@ use Rattle.write.specs.Renaming.{listedIn}
 use Rattle.apart.specs.Results.{Closable}
 use Rattle.freeing.specs.FreeTasks.{FreeTask, FreedWith}
 use Rattle.mdp.specs.StepLaws.{own-within}
-use Rattle.mdp.specs.CallLaws.{closed-count, freed-to}
+use Rattle.mdp.specs.CallLaws.{freed-to}
 use Rattle.steps.specs.declared.Step.{Step}
 use Rattle.steps.specs.declared.Step.the-variants.{Rows}
 use Rattle.steps.specs.Steps.{Result, Given}

@@ -1,6 +1,6 @@
 -- Laws of `is_on_path` and `is_on`.
 use mathlib.Core.Path.{_≡_, refl, sym, ap, _∙_}
-use mathlib.Core.Bool.{Bool, true, false, not, _&&_, _||_}
+use mathlib.Core.Bool.{Bool, true, false, not, _&&_, _||_, and-false}
 use mathlib.Core.List.{List}
 use Prim.Native.Nat.{ℕ, zero, suc, _+_, _-_, _≤_, _<_}
 use native.Mathlib.Omega.{arith}
@@ -16,10 +16,6 @@ use Rattle.paths.specs.Routes.{At, Sided, pathAt}
 use Rattle.paths.proofs.RouteLaws.{routed-at}
 use Rattle.reduction.specs.Reduction.{isOn}
 use Rattle.reduce.specs.Routing.{winning, isOnPath, Won, Edged}
-
-and-false : (a : Bool) → (a && false) ≡ false
-and-false true = refl
-and-false false = refl
 
 -- `is_on_path`
 module _ {ws counts wins : List ℕ} {n m r side p : ℕ} (w : Won ws counts wins n m) (e : Edged n r side) (h : p < m) where

@@ -196,13 +196,15 @@ module _ {ws counts wins : List ℕ} {m : ℕ} {s heads links numbers : List ℕ
       let p : length ws / 3 - 1 ≡ pred (rowCount ws) = omega arith in
       let o = g .each (length ws / 3 - 1) (omega arith) in
       record {
-        root = root;
-        count = count;
-        answer = refl;
-        there = rw e (o .0);
-        within = g .holds .table .within;
-        is = ap (tree s) e ∙ o .1 ∙ ap (λ (x : ℕ). keptOf (staysIn ws wins m) (tree ws x)) p;
-        written = g .holds .written;
+        stands = record {
+          root = root;
+          count = count;
+          answer = refl;
+          there = rw e (o .0);
+          within = g .holds .table .within;
+          is = ap (tree s) e ∙ o .1 ∙ ap (λ (x : ℕ). keptOf (staysIn ws wins m) (tree ws x)) p;
+          written = g .holds .written;
+        };
       }
 
 -- `keep`

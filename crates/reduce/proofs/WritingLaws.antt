@@ -1,11 +1,10 @@
 -- Laws of `write_kept`: what is left is formed, its listing written, then closed up.
 use mathlib.Core.Path.{_≡_, sym, ap, subst, _∙_}
 use mathlib.Core.List.{List, _++_}
-use Prim.Native.Nat.{ℕ, pred, _+_, _-_, _*_, _≤_}
+use Prim.Native.Nat.{ℕ, pred, _-_, _*_, _≤_}
 use native.Mathlib.Omega.{arith}
 use lib.ListN.{length, drop, replicate}
-use borrow.Author.Tests.{le-leb, le-ltb}
-use Rattle.diagram.specs.Sizes.{mostRows, spaceRows}
+use Rattle.diagram.specs.Sizes.{spaceRows}
 use Rattle.diagram.specs.Diagram.{Diagram}
 use Rattle.diagram.specs.Rows.{rows}
 use Rattle.diagram.specs.Words.{rowCount}
@@ -14,17 +13,15 @@ use Rattle.diagram.specs.Validity.{Valid, tree}
 use Rattle.diagram.specs.Variables.{closed}
 use Rattle.diagram.specs.DiagramOfListing.{diagram-is, good-diagram}
 use Rattle.diagram.specs.ListingValid.{listing-is-valid}
-use Rattle.apply.specs.declared.Combined.the-variants.{Done}
 use Rattle.store.specs.declared.Formed.{Formed}
 use Rattle.store.specs.declared.Formed.the-variants.{Row}
 use Rattle.write.specs.declared.Listed.{Listed}
 use Rattle.write.specs.declared.Listed.the-variants.{Rows, TooMany}
 use Rattle.write.specs.Renaming.{listedIn}
 use Rattle.write.specs.Writing as write
-use Rattle.write.specs.Writing.{writeAnswer, WritePost}
-use Rattle.apart.specs.Results as apart
-use Rattle.apart.specs.Results.{Closable, Regular, resultAnswer}
-use Rattle.apart.proofs.ResultLaws.{closed-count, result-writable, result-closable, result-done}
+use Rattle.write.specs.Writing.{WritePost}
+use Rattle.apart.specs.Results.{Closable}
+use Rattle.apart.proofs.StandingLaws.{Ready, stands-ready, ready-writable, ready-few, ready-closable, ready-done}
 use Rattle.cutting.specs.Cut.{written}
 use Rattle.paths.specs.Paths.{paths, mostPaths}
 use Rattle.reduction.specs.KeepingLaws.{keeping-good}
@@ -38,75 +35,43 @@ module _ {ar ws counts wins : List ℕ} {m : ℕ} {out work : List ℕ} (g : Wri
   pub write-keepable : Keepable ws counts wins m work
   write-keepable = record { won = g .won; room = g .work-room }
 
+  few : length (paths (diagramOf ws)) ≤ mostPaths
+  few =
+      let p : rowCount ws - 1 ≡ pred (rowCount ws) = omega (arith, valid .some) in
+      let q = ap (λ (d : Diagram). length (paths d)) (ap (tree ws) p ∙ sym (diagram-is ar ws valid)) in
+      omega (arith, g .won .routed .all, g .won .routed .few)
+
+  kept-good : Good ar (keptOf (staysIn ws wins m) (diagramOf ws))
+  unfolding keptOf
+  kept-good = keeping-good (staysIn ws wins m) ar (diagramOf ws) (good-diagram ar ws valid) few
+
   module _ {x : Formed} {s : List ℕ} (f : Kept ws wins m x s) {root count : ℕ} (e : x ≡ Row root count) (l : length s ≡ length work) where
     -- what is left, before it is closed up
     abbrev D : Diagram
-    D = keptOf (staysIn ws wins m) (diagramOf ws)
+    D = keptOf (staysIn ws wins m) (tree ws (pred (rowCount ws)))
 
-    root-is : root ≡ f .root
-    root-is = let z : Row root count ≡ Row (f .root) (f .count) = sym e ∙ f .answer in cc
+    kept-is : keptOf (staysIn ws wins m) (diagramOf ws) ≡ D
+    kept-is = ap (keptOf (staysIn ws wins m)) (diagram-is ar ws valid)
 
-    count-is : count ≡ f .count
-    count-is = let z : Row root count ≡ Row (f .root) (f .count) = sym e ∙ f .answer in cc
-
-    tree-is : tree s root ≡ D
-    tree-is = ap (tree s) root-is ∙ f .is ∙ ap (keptOf (staysIn ws wins m)) (sym (diagram-is ar ws valid))
-
-    few : length (paths (diagramOf ws)) ≤ mostPaths
-    few =
-        let p : rowCount ws - 1 ≡ pred (rowCount ws) = omega (arith, valid .some) in
-        let q = ap (λ (d : Diagram). length (paths d)) (ap (tree ws) p ∙ sym (diagram-is ar ws valid)) in
-        omega (arith, g .won .routed .all, g .won .routed .few)
-
-    kept-good : Good ar D
-    unfolding keptOf
-    kept-good = keeping-good (staysIn ws wins m) ar (diagramOf ws) (good-diagram ar ws valid) few
-
-    root-good : Good ar (tree s root)
-    root-good = subst (Good ar) (sym tree-is) kept-good
-
-    root-regular : Regular ar (tree s root)
-    root-regular = record { arities = root-good .arities; ordered = root-good .ordered; reduced = root-good .reduced; fine = root-good .fine }
-
-    kept-writable : apart.Writable ar s count root out
-    kept-writable = record {
-      written = rw count-is (f .written);
-      words = omega (arith, g .work-room);
-      within = rw count-is (f .within);
-      root-there = rw (root-is, count-is) (f .there);
-      regular = root-regular;
-      room = g .out-room;
-    }
+    ready : Ready ar D s root count out
+    ready = stands-ready (f .stands) e (subst (Good ar) kept-is kept-good) (omega (arith, g .work-room)) (g .out-room)
 
     pub write-writable : (n₁ n₂ : ℕ) → spaceRows ≤ n₁ → spaceRows ≤ n₂ → write.Writable s count root (replicate n₁ 0) (replicate n₂ 0) out
-    write-writable n₁ n₂ h h′ = result-writable kept-writable n₁ n₂ h h′
+    write-writable n₁ n₂ h h′ = ready-writable ready n₁ n₂ h h′
 
     module _ {y : Listed} {marks′ out′ : List ℕ} (w : WritePost s root out y marks′ out′) where
       pub write-many : {r : ℕ} → y ≡ TooMany → Shortened ar ws wins m out r out′
-      unfolding writeAnswer
-      write-many q =
-          let z : TooMany ≡ Rows (length (rows (tree s root))) = rw (le-leb (length (rows (tree s root))) mostRows (root-good .few)) at (sym q ∙ w .answer) in
-          absurd (let u : _≡_ {A = ℕ} 0 1 = cc in omega arith)
+      write-many q = ready-few ready w q
 
       module _ {k : ℕ} (q : y ≡ Rows k) where
         pub write-closable : Closable ar out′ k
-        write-closable = result-closable kept-writable w q
-
-        closed-is : closed ar (tree s root) ≡ closed ar D
-        closed-is = ap (closed ar) tree-is
-
-        done-rows : Done k 0 ≡ resultAnswer ar (tree s root) 0 → k ≡ length (rows (closed ar (tree s root)))
-        unfolding resultAnswer
-        done-rows a =
-            let z : Done k 0 ≡ Done (length (rows (closed ar (tree s root)))) 0
-            = rw (le-ltb mostRows (length (rows (closed ar (tree s root)))) (omega (arith, closed-count ar (tree s root) root-regular, root-good .few))) at a in
-            cc
+        write-closable = ready-closable ready w q
 
         pub write-done : {out″ : List ℕ} → out″ ≡ listing (closed ar (listedIn out′ k)) ++ drop (k * 3) out′ → Shortened ar ws wins m out k out″
         unfolding written
-        write-done {out″} u =
-            let z = result-done kept-writable w q 0 u in
+        write-done u =
+            let z = ready-done ready w q u in
             record {
-              answer = done-rows (z .answer) ∙ ap (λ (d : Diagram). length (rows d)) closed-is;
-              words = z .words ∙ ap (λ (d : Diagram). listing d ++ drop (length (listing d)) out) closed-is;
+              answer = z .0 ∙ ap (λ (d : Diagram). length (rows (closed ar d))) (sym kept-is);
+              words = z .1 ∙ ap (λ (d : Diagram). listing (closed ar d) ++ drop (length (listing (closed ar d))) out) (sym kept-is);
             }

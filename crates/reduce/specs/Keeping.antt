@@ -6,17 +6,16 @@ use mathlib.Core.List.{List}
 use Prim.Native.Nat.{ℕ, pred, _+_, _≤_, _<_}
 use lib.ListN.{length, getD}
 use Rattle.label.specs.Limits.{leafMark}
-use Rattle.diagram.specs.Sizes.{mostRows, spaceRows, resultWords, spaceWords}
+use Rattle.diagram.specs.Sizes.{mostRows, resultWords, spaceWords}
 use Rattle.diagram.specs.Diagram.{Diagram, leaf}
 use Rattle.diagram.specs.Rows.{rows}
 use Rattle.diagram.specs.Words.{labelAt, rowCount, isListing}
 use Rattle.diagram.specs.Listing.{listing, diagramOf}
 use Rattle.diagram.specs.Validity.{tree}
 use Rattle.diagram.specs.Variables.{closed}
-use Rattle.diagram.specs.RowLists.{Written}
 use Rattle.store.specs.declared.Formed.{Formed}
-use Rattle.store.specs.declared.Formed.the-variants.{Row}
-use Rattle.store.specs.Space.{diagramsOf, Holds}
+use Rattle.store.specs.Space.{Holds}
+use Rattle.apart.specs.Results.{Stands}
 use Rattle.cutting.specs.Cut.{reduced, written}
 use Rattle.reduction.specs.Reduction.{keeping}
 use Rattle.reduce.specs.Routing.{staysIn, Won, Edged}
@@ -50,13 +49,7 @@ pub record Keepable (ws counts wins : List ℕ) (m : ℕ) (s : List ℕ) : Type 
 
 -- what is left of the last row has its place; there is always room
 pub record Kept (ws wins : List ℕ) (m : ℕ) (r : Formed) (s : List ℕ) : Type 0 where
-  pub root : ℕ
-  pub count : ℕ
-  pub answer : r ≡ Row root count
-  pub there : root < count
-  pub within : count ≤ spaceRows
-  pub is : tree s root ≡ keptOf (staysIn ws wins m) (tree ws (pred (rowCount ws)))
-  pub written : Written s (diagramsOf s count)
+  pub stands : Stands (keptOf (staysIn ws wins m) (tree ws (pred (rowCount ws)))) r s
 
 -- what writing what is left requires: a listing with its paths, marks of the winning ones, and room
 pub record Writable (ar ws counts wins : List ℕ) (m : ℕ) (out work : List ℕ) : Type 0 where
