@@ -67,7 +67,8 @@ labels-for P (conditional Always h f) g = every-stepped P (testDiagram Always) (
 labels-for P (conditional (Is l) h f) g =
     every-stepped P (testDiagram (Is l)) (diagramFor h) (diagramFor f) (g .0, tt, tt) (labels-for P h (g .1)) (labels-for P f (g .2))
 
-meaning-most : (c : ℕ → Bool) (r : Reading) → EachValue r → meaning c r ≤ highestValue
+-- no leaf is above the highest value
+pub meaning-most : (c : ℕ → Bool) (r : Reading) → EachValue r → meaning c r ≤ highestValue
 meaning-most c (number v) g = g
 meaning-most c (conditional t h f) g = go (asked c t) (meaning-most c h (g .0)) (meaning-most c f (g .1))
   where
@@ -102,13 +103,13 @@ reward-held ar r =
     accepted-then (readDiagram r []) (read-gives r .given [])
     (λ p h. subst (λ (d : Diagram). Accepted (Held (closed ar d)) (held (closed ar (p .0)))) h (held-is (closed ar (p .0))))
 
--- so with few rows it is good
-module _ (ar : List ℕ) (r : Reading) (a : areArities ar ≡ true) (l : EachAsked (λ l. isLabel ar l ≡ true) r) (v : EachValue r) where
-  fine-for : Fine ar (diagramFor r)
-  fine-for = fine-made ar (diagramFor r) (labels-for (λ k. isLabel ar k ≡ true) r l) (most-for r v)
+-- so it is fine, and good with few rows
+pub fine-for : (ar : List ℕ) (r : Reading) → EachAsked (λ l. isLabel ar l ≡ true) r → EachValue r → Fine ar (diagramFor r)
+fine-for ar r l v = fine-made ar (diagramFor r) (labels-for (λ k. isLabel ar k ≡ true) r l) (most-for r v)
 
-  good-for : length (rows (diagramFor r)) ≤ mostRows → Good ar (diagramFor r)
-  good-for h = record { arities = a; ordered = ordered-for r; reduced = reduced-for r; fine = fine-for; few = h }
+good-for : (ar : List ℕ) (r : Reading) → areArities ar ≡ true → EachAsked (λ l. isLabel ar l ≡ true) r → EachValue r → length (rows (diagramFor r)) ≤ mostRows
+    → Good ar (diagramFor r)
+good-for ar r a l v h = record { arities = a; ordered = ordered-for r; reduced = reduced-for r; fine = fine-for ar r l v; few = h }
 
 -- an accepted diagram of a text has a listing, and so has a reward's
 pub text-good : (ar : List ℕ) (r : Reading) (d : Diagram) → areArities ar ≡ true → EachAsked (λ l. isLabel ar l ≡ true) r → EachValue r
@@ -121,5 +122,5 @@ pub reward-good : (ar : List ℕ) (r : Reading) (d : Diagram) → areArities ar 
     → rewardDiagram ar r ≡ ok d → Good ar d
 reward-good ar r d a l v e =
     let h = reward-held ar r .given d e in
-    let n = closed-count ar (diagramFor r) a (fine-for ar r a l v) in
+    let n = closed-count ar (diagramFor r) a (fine-for ar r l v) in
     subst (Good ar) (sym (h .is)) (closed-good ar (diagramFor r) (good-for ar r a l v (omega (arith, n, h .few))))

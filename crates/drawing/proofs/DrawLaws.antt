@@ -25,7 +25,7 @@ use Rattle.reading.specs.declared.Known.{Known}
 use Rattle.reading.specs.declared.Read.{Read}
 use Rattle.reading.specs.declared.Read.the-variants as W
 use Rattle.reading.specs.Operations.{Op, opsIn}
-use Rattle.reading.specs.Reading.{Names, Judged, Met, arguments, Written, reading}
+use Rattle.reading.specs.Reading.{Names, Met, arguments, Written, reading}
 use Rattle.reading.specs.Tree.{Reading, depth, opsOf, Named, reach, GoodReading}
 use Rattle.reading.specs.Numbering.{rewardReading}
 use Rattle.reading.specs.Callers.{namesOf, argumentCount, Readable, Reads}
@@ -36,7 +36,6 @@ use Rattle.build.specs.Machine.{built, builtClosed, mostTests}
 use Rattle.build.specs.MachineLaws.{built-text, built-reward}
 use Rattle.build.specs.ReadingLaws.{text-good, reward-good}
 use Rattle.drawing.specs.Writing.{builtAs, Buildable, Labelled, Answered}
-use Rattle.session.specs.Modelling.{outcomeOf}
 use Rattle.drawing.specs.Drawing.{Drawable, Holds, Draws}
 use Rattle.drawing.specs.Endings.{builtTo, knownTo, Allows, drawnTo, shortLine}
 use Rattle.drawing.specs.declared.Ending.{Ending}
@@ -45,11 +44,11 @@ use Rattle.drawing.proofs.LabelLaws.{asked-label, each-asked, each-valu
 
 -- ===== What is drawn, by what is read =====
 
-drawn-by : (x : Ending) (σ : Names) (es : List Event) (vs : List Key) (j : Judged Written) → reading σ es (knownTo x es vs) ≡ j
-    → drawnTo x σ es vs ≡ andThen (outcomeOf j) (λ w. builtTo x (σ .arities) (w .operations))
+drawn-by : (x : Ending) (σ : Names) (es : List Event) (vs : List Key) (j : Outcome Written) → reading σ es (knownTo x es vs) ≡ j
+    → drawnTo x σ es vs ≡ andThen j (λ w. builtTo x (σ .arities) (w .operations))
 unfolding builtTo drawnTo knownTo rewardReading
-drawn-by Plain σ es vs j e = ap (λ (i : Judged Written). andThen (outcomeOf i) (λ w. built (w .operations))) e
-drawn-by Closed σ es vs j e = ap (λ (i : Judged Written). andThen (outcomeOf i) (λ w. builtClosed (σ .arities) (w .operations))) e
+drawn-by Plain σ es vs j e = ap (λ (i : Outcome Written). andThen i (λ w. built (w .operations))) e
+drawn-by Closed σ es vs j e = ap (λ (i : Outcome Written). andThen i (λ w. builtClosed (σ .arities) (w .operations))) e
 
 -- ===== Results =====
 

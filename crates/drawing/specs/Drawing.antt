@@ -21,17 +21,16 @@ use Rattle.reading.specs.Callers.{argumentCount, Tables, Variables}
 use Rattle.drawing.specs.declared.Built.{Built}
 use Rattle.build.specs.Machine.{built, builtClosed, mostTests}
 use Rattle.drawing.specs.Writing.{builtAs}
-use Rattle.session.specs.Modelling.{outcomeOf}
 
 -- the words es, the arguments vs known before them
 unfoldable pub drawn : Names → List Event → List Key → Outcome Diagram
 unfolding reading built
-drawn σ es vs = andThen (outcomeOf (reading σ es (arguments vs))) (λ w. built (w .operations))
+drawn σ es vs = andThen (reading σ es (arguments vs)) (λ w. built (w .operations))
 
 -- a reward: its variables by ascending N where each is written so, its diagram closed up
 unfoldable pub drawnClosed : Names → List Event → Outcome Diagram
 unfolding rewardReading builtClosed
-drawnClosed σ es = andThen (outcomeOf (rewardReading σ es)) (λ w. builtClosed (σ .arities) (w .operations))
+drawnClosed σ es = andThen (rewardReading σ es) (λ w. builtClosed (σ .arities) (w .operations))
 
 -- the words of the line from the place `at` on are those of a diagram with at most 64 brackets open together
 pub record DiagramAt (line : List ℕ) (at : ℕ) : Type 0 where

@@ -6,6 +6,7 @@ use mathlib.Core.List.{List, [], _∷_, _++_}
 use native.Mathlib.Omega.{arith}
 use borrow.Author.Tests.{le-leb, lt-leb}
 use lib.ListN.{length, drop, length-drop}
+use Rattle.refusal.specs.Outcome.{Outcome}
 use Rattle.label.specs.Limits.{variableCount}
 use Rattle.words.specs.Keys.{nameOf}
 use Rattle.words.specs.declared.Key.{Key}
@@ -29,7 +30,7 @@ use Rattle.reading.specs.declared.Numbered.{Numbered}
 use Rattle.reading.specs.declared.Numbered.the-variants as N
 use Rattle.reading.specs.declared.Gathered.{Gathered}
 use Rattle.reading.specs.declared.Gathered.the-variants as G
-use Rattle.reading.specs.Reading.{Judged, Written, reading}
+use Rattle.reading.specs.Reading.{Written, reading}
 use Rattle.reading.specs.Occurrences.{minimumOf, variableOf, wordKeys, keysOf}
 use Rattle.reading.specs.Numbering.{isNumbered, allNumbered, rewardReading}
 use Rattle.reading.specs.NumberingLaws.{kept-reading}
@@ -172,4 +173,4 @@ pub reward-reads : (line : List ℕ) (place : ℕ) (ns ar : List ℕ) (s : Scope
     → Reads (reading (namesOf ns ar s) (eventsOf (drop place line)) (metIn vs known)) r vs′ os′ → Reads (rewardReading (namesOf ns ar s) (eventsOf (drop place line))) r vs′ os′
 reward-reads line place ns ar s any m {r} {vs′} {os′} h =
     let es : List Event = eventsOf (drop place line) in
-    subst (λ (j : Judged Written). Reads j r vs′ os′) (ap (reading (namesOf ns ar s) es) (m .met) ∙ kept-reading (namesOf ns ar s) any es) h
+    subst (λ (j : Outcome Written). Reads j r vs′ os′) (ap (reading (namesOf ns ar s) es) (m .met) ∙ kept-reading (namesOf ns ar s) any es) h

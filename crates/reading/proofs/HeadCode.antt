@@ -7,6 +7,7 @@ use native.Mathlib.Omega.{arith}
 use borrow.Author.Tests.{eq-eqb, ne-eqb}
 use lib.ListN.{length, drop}
 use Rattle.refusal.specs.declared.Refusal.the-variants.{Form, Name, Arity}
+use Rattle.refusal.specs.Outcome.{Outcome, ok, refused}
 use Rattle.words.specs.declared.Key.{Key}
 use Rattle.names.specs.Many.{many}
 use Rattle.basics.specs.Members.{clash}
@@ -25,8 +26,6 @@ use Rattle.reading.specs.declared.Argument.the-variants as A
 use Rattle.reading.specs.declared.Opened.the-variants as P
 use Rattle.reading.specs.declared.Headed.{Headed}
 use Rattle.reading.specs.declared.Headed.the-variants as H
-use Rattle.reading.specs.Reading.{Judged}
-use Rattle.reading.specs.Reading.Judged.{fine, refused}
 use Rattle.reading.specs.Head.{Head, openingOf, argumentOf, openedNumber, headNumber, pickArgument, argumentsFrom, openedArguments, headArguments}
 use Rattle.reading.specs.Callers.{Opens, Heads}
 use Rattle.reading.proofs.WordCode.{moves}
@@ -87,7 +86,7 @@ arguments-at line place n = go (standing line place)
     go (goes b) = rw (next-more line place b)
 
 -- an argument, the keys vs before it, and n more behind it in the words es
-abbrev argumentThen : ℕ → List Key → List Event → Argument → Judged Head
+abbrev argumentThen : ℕ → List Key → List Event → Argument → Outcome Head
 argumentThen n vs es a = pickArgument a (λ k. cond (isAmong k vs) (refused Name) (argumentsFrom n (vs ++ (k ∷ [])) es))
 
 from-at : (line : List ℕ) (place n : ℕ) (vs : List Key)
@@ -145,7 +144,7 @@ unfolding keysAt many
 no-keys vs = refl
 
 from-none : (line : List ℕ) (place : ℕ) (n : ℕ) (vs : List Key) → n ≡ 0
-    → argumentsFrom n vs (eventsOf (drop place line)) ≡ fine (record { variables = vs; rest = eventsOf (drop place line) })
+    → argumentsFrom n vs (eventsOf (drop place line)) ≡ ok (record { variables = vs; rest = eventsOf (drop place line) })
 unfolding argumentsFrom
 from-none line place n vs e = rw e
 
@@ -163,7 +162,7 @@ module _ {line : List ℕ} {place₀ arity : ℕ} {vs₀ vs : List ℕ} {place n
   arguments-done h = record {
     answer =
         let e : arity ≡ n = omega (arith, l .count) in
-        ap (λ m. fine (record { variables = keysAt vs 0 m; rest = eventsOf (drop place line) })) e
+        ap (λ m. ok (record { variables = keysAt vs 0 m; rest = eventsOf (drop place line) })) e
         ∙ sym (l .still ∙ from-none line place (arity - n) (keysAt vs 0 n) (omega arith));
     within = l .within;
   }

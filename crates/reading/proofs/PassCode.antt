@@ -8,6 +8,7 @@ use lib.ListN.{length, getD, take, set, length-set}
 use lib.Seq.{getD-set-same, getD-set-other, take-suc-set}
 use Rattle.refusal.specs.declared.Refusal.{Refusal}
 use Rattle.refusal.specs.declared.Refusal.the-variants.{Form, Name, Arity, Range}
+use Rattle.refusal.specs.Outcome.{ok}
 use Rattle.label.specs.Limits.{predicateCount, predicateWeight, termEnd, mostPlaces}
 use Rattle.label.specs.Labels.{placesOf, placeIn, atomFrom, unpacked, testOf}
 use Rattle.label.specs.ArityLaws.{arity-most, arity-words}
@@ -31,7 +32,6 @@ use Rattle.reading.specs.declared.Resolved.the-variants as R
 use Rattle.reading.specs.Operations.{Op, opOf, opAt, opsIn}
 use Rattle.reading.specs.Operations.Op.{ask}
 use Rattle.reading.specs.Reading.{Pass, more, asked, begun, termWord, numberWord, atomWord}
-use Rattle.reading.specs.Reading.Judged.{fine}
 use Rattle.reading.specs.Callers.{namesOf, placed, atomOf, passOf, judgedNumber, Tables, Room, Fillable, TermBelow, Goes, Steps}
 use Rattle.reading.proofs.FillCode.{whole, empty-unpacked, empty-packs, empty-unfilled, placed-places, placed-other, placed-packs}
 
@@ -166,17 +166,17 @@ module _ (os : List ℕ) (p : Progress) (t : ℕ) (l : Label) (w : Room os p) (f
       ∙ ap (λ (m : ℕ). take m (set (placesOf (atomOf p)) (p .filled) t)) n
       ∙ take-suc-set (placesOf (atomOf p)) (p .filled) t (omega (arith, w .going .places))
 
-  pub give-goes : {r : Progress} {os′ : List ℕ} → Goes (next p l) (asked (passOf os (next p l))) r os′ → Steps p (termWord (passOf os p) (fine t)) (S.Done r) os′
+  pub give-goes : {r : Progress} {os′ : List ℕ} → Goes (next p l) (asked (passOf os (next p l))) r os′ → Steps p (termWord (passOf os p) (ok t)) (S.Done r) os′
   unfolding termWord
   give-goes g = record {
     answer =
         rw (ne-eqb (p .due) 0 f)
-        (ap fine (g .pass ∙ ap₂ (λ (q : ℕ) (ts : List ℕ). asked (record { predicate = q; terms = ts; due = p .due - 1; operations = opsIn os (p .operations) }))
+        (ap ok (g .pass ∙ ap₂ (λ (q : ℕ) (ts : List ℕ). asked (record { predicate = q; terms = ts; due = p .due - 1; operations = opsIn os (p .operations) }))
         (ap (λ (a : Atom). a .predicate) e) terms-more));
     advanced = record { going = g .advanced .going; one = g .advanced .one };
   }
 
-pub give-none : (os : List ℕ) (p : Progress) (t : ℕ) → p .due ≡ 0 → Steps p (termWord (passOf os p) (fine t)) (S.Refused Form) os
+pub give-none : (os : List ℕ) (p : Progress) (t : ℕ) → p .due ≡ 0 → Steps p (termWord (passOf os p) (ok t)) (S.Refused Form) os
 unfolding termWord
 give-none os p t e = record { answer = rw (eq-eqb (p .due) 0 e); advanced = tt }
 
@@ -186,7 +186,7 @@ pub term-below : {r : Resolved} {t : ℕ} → TermBelow r → r ≡ R.Number t �
 term-below h e = subst TermBelow e h
 
 module _ (os : List ℕ) (p : Progress) {r : Resolved} where
-  pub term-number : {t : ℕ} {x : Stepped} {os′ : List ℕ} → r ≡ R.Number t → Steps p (termWord (passOf os p) (fine t)) x os′
+  pub term-number : {t : ℕ} {x : Stepped} {os′ : List ℕ} → r ≡ R.Number t → Steps p (termWord (passOf os p) (ok t)) x os′
       → Steps p (termWord (passOf os p) (judgedNumber r)) x os′
   term-number e g = rw e g
 
@@ -203,7 +203,7 @@ number-range os p v h = record { answer = rw (lt-leb v highestValue h); advanced
 pub number-goes : (os : List ℕ) (p : Progress) (v : ℕ) {r : Progress} {os′ : List ℕ} → v ≤ highestValue → Goes p (more (passOf os p) (opOf 0 v)) r os′
     → Steps p (numberWord (passOf os p) v) (S.Done r) os′
 unfolding numberWord
-number-goes os p v h g = record { answer = rw (le-leb v highestValue h) (ap fine (g .pass)); advanced = g .advanced }
+number-goes os p v h g = record { answer = rw (le-leb v highestValue h) (ap ok (g .pass)); advanced = g .advanced }
 
 -- an atom's name
 
@@ -220,7 +220,7 @@ module _ (ns ar os : List ℕ) (s : Scope) (p : Progress) (k : Key) (n : ℕ) {i
     pub atom-goes : n ≡ getD ar (i + 1) 0 → {r : Progress} {os′ : List ℕ} → Goes p (begun (passOf os p) (i + 1) n) r os′
         → Steps p (atomWord (namesOf ns ar s) (passOf os p) k n) (S.Done r) os′
     unfolding atomWord
-    atom-goes e g = record { answer = rw (among-at ns declaredAt (s .predicates) k q l, ← q, eq-eqb n (getD ar (i + 1) 0) e) (ap fine (g .pass)); advanced = g .advanced }
+    atom-goes e g = record { answer = rw (among-at ns declaredAt (s .predicates) k q l, ← q, eq-eqb n (getD ar (i + 1) 0) e) (ap ok (g .pass)); advanced = g .advanced }
 
 module _ (ns ar : List ℕ) (s : Scope) (t : Tables ns ar s) where
   pub atom-room : {i : ℕ} → i < s .predicates → i + 1 < length ar

@@ -5,6 +5,7 @@ use mathlib.Core.List.{List}
 use native.Mathlib.Omega.{arith}
 use borrow.Author.Tests.{le-leb, lt-leb}
 use Rattle.refusal.specs.declared.Refusal.the-variants.{Name, Unbound}
+use Rattle.refusal.specs.Outcome.{ok}
 use Rattle.label.specs.Limits.{constantCount, parameterCount, firstVariable, variableCount, firstMinimum}
 use Rattle.label.specs.Terms.{constantTerm, parameterTerm, variableTerm, minimumTerm}
 use Rattle.words.specs.declared.Key.{Key}
@@ -19,7 +20,6 @@ use Rattle.reading.specs.declared.Known.{Known}
 use Rattle.reading.specs.declared.Resolved.{Resolved}
 use Rattle.reading.specs.declared.Resolved.the-variants as R
 use Rattle.reading.specs.Reading.{constantNumber, parameterNumber, met, variableMet, minimumMet, metAt, lastVariable, numberIn, variableNumber, minimumNumber}
-use Rattle.reading.specs.Reading.Judged.{fine}
 use Rattle.reading.specs.Callers.{partWords, metIn, Part, Variables, Resolves, Meets, MeetsWord}
 
 module _ (ns : List ℕ) (n : ℕ) (k : Key) {i : ℕ} where
@@ -52,7 +52,7 @@ number-is first ks k q e = e ∙ ap (λ j. first + min j lastVariable) q
 module _ (vs : List ℕ) (n : ℕ) (k : Key) {i v : ℕ} (q : i ≡ placeOf k (keysAt vs 0 n)) where
   pub any-is : v ≡ variableTerm (min i lastVariable) → Resolves (variableNumber Any (keysAt vs 0 n) k) (R.Number v)
   unfolding variableNumber
-  any-is e = record { answer = ap fine (number-is firstVariable (keysAt vs 0 n) k q e); below = omega arith }
+  any-is e = record { answer = ap ok (number-is firstVariable (keysAt vs 0 n) k q e); below = omega arith }
 
   pub bound-is : i < n → v ≡ variableTerm (min i lastVariable) → Resolves (variableNumber Only (keysAt vs 0 n) k) (R.Number v)
   unfolding variableNumber
@@ -80,7 +80,7 @@ module _ (vs : List ℕ) (n : ℕ) (b : Binding) (k : Key) where
   pub minimum-is : b ≡ Any → {i v : ℕ} → i ≡ placeOf k (keysAt vs partWords n) → v ≡ minimumTerm (min i lastVariable)
       → Resolves (minimumNumber b (keysAt vs partWords n) k) (R.Number v)
   unfolding minimumNumber
-  minimum-is z q e = rw z (record { answer = ap fine (number-is firstMinimum (keysAt vs partWords n) k q e); below = omega arith })
+  minimum-is z q e = rw z (record { answer = ap ok (number-is firstMinimum (keysAt vs partWords n) k q e); below = omega arith })
 
   pub minimum-none : b ≡ None → Resolves (minimumNumber b (keysAt vs partWords n) k) (R.Refused Unbound)
   unfolding minimumNumber

@@ -9,6 +9,7 @@ use lib.Dec.{leb}
 use lib.ListN.{length, drop, length-drop}
 use Rattle.refusal.specs.declared.Refusal.{Refusal}
 use Rattle.refusal.specs.declared.Refusal.the-variants as F
+use Rattle.refusal.specs.Outcome.{ok, refused, andThen}
 use Rattle.label.specs.Limits.{equality, equalityArity, variableCount, minimumCount}
 use Rattle.label.specs.declared.Atom.{Atom}
 use Rattle.words.specs.declared.Key.{Key}
@@ -30,9 +31,8 @@ use Rattle.reading.specs.declared.Resolved.{Resolved}
 use Rattle.reading.specs.declared.Read.{Read}
 use Rattle.reading.specs.declared.Read.the-variants as W
 use Rattle.reading.specs.Operations.{Op, opOf, opsIn}
-use Rattle.reading.specs.Reading.{Names, Met, State, andThen, more, begun, termWord, numberWord, atomWord, constantNumber, parameterNumber}
+use Rattle.reading.specs.Reading.{Names, Met, State, more, begun, termWord, numberWord, atomWord, constantNumber, parameterNumber}
 use Rattle.reading.specs.Reading.{variableNumber, minimumNumber, arguments, metAt, word, with-pass, readWord, readWords, finished, begin, reading}
-use Rattle.reading.specs.Reading.Judged.{fine, refused}
 use Rattle.reading.specs.Callers.{partWords, metIn, argumentCount, namesOf, passOf, stateOf, judgedNumber, judgedPass, readAnswer, refusedRead, judgedWritten}
 use Rattle.reading.specs.Callers.{ReadWithin, Reads, Variables, Readable, Going, Room, Advanced, AdvancedBy, Resolves, MeetsWord, Goes, Steps}
 use Rattle.reading.proofs.FillCode.{empty-unpacked, empty-packs, empty-unfilled}
@@ -64,7 +64,7 @@ module _ (ns ar : List ℕ) (s : Scope) (vs : Met) (os : List ℕ) (p : Progress
 
     pub word-equal : {r : Progress} → e ≡ E.Equal → Goes p (begun (passOf os p) equality equalityArity) r os′ → Steps p (word (namesOf ns ar s) vs (passOf os p) e) (S.Done r) os′
     unfolding word
-    word-equal q g = rw q (record { answer = ap fine (g .pass); advanced = g .advanced })
+    word-equal q g = rw q (record { answer = ap ok (g .pass); advanced = g .advanced })
 
     pub word-holds : {k : Key} {n : ℕ} {r : Stepped} → e ≡ E.Holds k n → Steps p (atomWord (namesOf ns ar s) (passOf os p) k n) r os′
         → Steps p (word (namesOf ns ar s) vs (passOf os p) e) r os′
@@ -73,7 +73,7 @@ module _ (ns ar : List ℕ) (s : Scope) (vs : Met) (os : List ℕ) (p : Progress
 
     pub word-step : {r : Progress} → e ≡ E.Step → Goes p (more (passOf os p) (opOf 3 0)) r os′ → Steps p (word (namesOf ns ar s) vs (passOf os p) e) (S.Done r) os′
     unfolding word
-    word-step q g = rw q (record { answer = ap fine (g .pass); advanced = g .advanced })
+    word-step q g = rw q (record { answer = ap ok (g .pass); advanced = g .advanced })
 
   pub word-end : e ≡ E.End → Room os p → Steps p (word (namesOf ns ar s) vs (passOf os p) e) (S.Done p) os
   unfolding word
@@ -96,7 +96,7 @@ answer-finished vs n os p =
     rw (length-keys vs 0 (n .variables), length-keys vs partWords (n .minimums)) (go (leb (n .variables) variableCount && leb (n .minimums) minimumCount))
   where
     go : (b : Bool) → judgedWritten vs os (cond b (W.Done (p .operations) n) (W.Refused F.Variables))
-        ≡ cond b (fine (record { met = metIn vs n; operations = opsIn os (p .operations) })) (refused F.Variables)
+        ≡ cond b (ok (record { met = metIn vs n; operations = opsIn os (p .operations) })) (refused F.Variables)
     go true = refl
     go false = refl
 
@@ -136,7 +136,7 @@ pub moves : (line : List ℕ) (place : ℕ) (n : Next) → n ≡ nextAt line pla
 moves line place n q h =
     subst (λ (x : Next). (x .place ≤ length line) × (isEnd (x .event) ≡ false → place < x .place)) (sym q) (next-moves line place h)
 
-words-none : (σ : Names) (es : List Event) (s : State) → es ≡ [] → readWords σ es s ≡ fine s
+words-none : (σ : Names) (es : List Event) (s : State) → es ≡ [] → readWords σ es s ≡ ok s
 unfolding readWords
 words-none σ es s e = rw e
 

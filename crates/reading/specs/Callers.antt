@@ -6,6 +6,7 @@ use lib.Dec.{leb}
 use mathlib.Core.List.{List}
 use lib.ListN.{length, take, drop, set}
 use Rattle.refusal.specs.declared.Refusal.the-variants as F
+use Rattle.refusal.specs.Outcome.{Outcome, ok, refused}
 use Rattle.label.specs.Limits.{constantCount, parameterCount, predicateCount, termBase, termEnd, mostPlaces, variableCount, minimumCount}
 use Rattle.label.specs.Labels.{areArities, placesOf, placeIn, atomFrom, unpacked}
 use Rattle.label.specs.Callers.{Packable}
@@ -29,8 +30,7 @@ use Rattle.reading.specs.declared.Headed.{Headed}
 use Rattle.reading.specs.declared.Headed.the-variants as H
 use Rattle.reading.specs.Operations.{opsIn}
 use Rattle.reading.specs.Head.{Head}
-use Rattle.reading.specs.Reading.{Names, Judged, Met, Pass, State, Written}
-use Rattle.reading.specs.Reading.Judged.{fine, refused}
+use Rattle.reading.specs.Reading.{Names, Met, Pass, State, Written}
 
 -- a table of variables has a part for each kind, which keeps one more than the limit, of two words each: the maximum variables first
 abbrev pub keptCount : ℕ
@@ -77,12 +77,12 @@ passOf os p = record {
   operations = opsIn os (p .operations);
 }
 
-abbrev pub judgedNumber : Resolved → Judged ℕ
-judgedNumber (R.Number t) = fine t
+abbrev pub judgedNumber : Resolved → Outcome ℕ
+judgedNumber (R.Number t) = ok t
 judgedNumber (R.Refused r) = refused r
 
-abbrev pub judgedPass : List ℕ → Stepped → Judged Pass
-judgedPass os (S.Done p) = fine (passOf os p)
+abbrev pub judgedPass : List ℕ → Stepped → Outcome Pass
+judgedPass os (S.Done p) = ok (passOf os p)
 judgedPass os (S.Refused r) = refused r
 
 -- and the state that its words have come to
@@ -97,13 +97,13 @@ abbrev pub refusedRead : Stepped → Read
 refusedRead (S.Done p) = W.Refused F.Form
 refusedRead (S.Refused r) = W.Refused r
 
-abbrev pub judgedWritten : List ℕ → List ℕ → Read → Judged Written
-judgedWritten vs os (W.Done n m) = fine (record { met = metIn vs m; operations = opsIn os n })
+abbrev pub judgedWritten : List ℕ → List ℕ → Read → Outcome Written
+judgedWritten vs os (W.Done n m) = ok (record { met = metIn vs m; operations = opsIn os n })
 judgedWritten vs os (W.Refused r) = refused r
 
 -- the predicate's number of a head
-abbrev pub judgedPredicate : Opened → Judged ℕ
-judgedPredicate (P.Predicate i) = fine i
+abbrev pub judgedPredicate : Opened → Outcome ℕ
+judgedPredicate (P.Predicate i) = ok i
 judgedPredicate (P.Refused r) = refused r
 
 -- it is a declared one of n
@@ -112,13 +112,13 @@ PredicateWithin n (P.Predicate i) = (0 < i) × (i ≤ n)
 PredicateWithin n (P.Refused r) = Unit {0}
 
 -- the promise of reading a head's predicate, n declared: the answer w
-pub record Opens (n : ℕ) (w : Judged ℕ) (r : Opened) : Type 0 where
+pub record Opens (n : ℕ) (w : Outcome ℕ) (r : Opened) : Type 0 where
   pub answer : judgedPredicate r ≡ w
   pub within : PredicateWithin n r
 
 -- n arguments in vs, and the words of the line behind them
-abbrev pub judgedHead : List ℕ → List ℕ → ℕ → Headed → Judged Head
-judgedHead line vs n (H.Arguments i) = fine (record { variables = keysAt vs 0 n; rest = eventsOf (drop i line) })
+abbrev pub judgedHead : List ℕ → List ℕ → ℕ → Headed → Outcome Head
+judgedHead line vs n (H.Arguments i) = ok (record { variables = keysAt vs 0 n; rest = eventsOf (drop i line) })
 judgedHead line vs n (H.Refused r) = refused r
 
 -- the place behind the head is one of the line
@@ -127,7 +127,7 @@ HeadWithin line (H.Arguments i) = i ≤ length line
 HeadWithin line (H.Refused r) = Unit {0}
 
 -- the promise of reading a head's arguments: the answer w
-pub record Heads (line : List ℕ) (n : ℕ) (w : Judged Head) (r : Headed) (vs′ : List ℕ) : Type 0 where
+pub record Heads (line : List ℕ) (n : ℕ) (w : Outcome Head) (r : Headed) (vs′ : List ℕ) : Type 0 where
   pub answer : judgedHead line vs′ n r ≡ w
   pub within : HeadWithin line r
 
@@ -137,7 +137,7 @@ ReadWithin os (W.Done n m) = n * 2 ≤ length os
 ReadWithin os (W.Refused r) = Unit {0}
 
 -- the promise of reading a line's words: the answer w
-pub record Reads (w : Judged Written) (r : Read) (vs′ os′ : List ℕ) : Type 0 where
+pub record Reads (w : Outcome Written) (r : Read) (vs′ os′ : List ℕ) : Type 0 where
   pub answer : judgedWritten vs′ os′ r ≡ w
   pub within : ReadWithin os′ r
 
@@ -199,7 +199,7 @@ AdvancedBy p (S.Done q) = Advanced p q
 AdvancedBy p (S.Refused r) = Unit {0}
 
 -- the promise of a function that resolves a term: the answer w
-pub record Resolves (w : Judged ℕ) (r : Resolved) : Type 0 where
+pub record Resolves (w : Outcome ℕ) (r : Resolved) : Type 0 where
   pub answer : judgedNumber r ≡ w
   pub below : TermBelow r
 
@@ -218,6 +218,6 @@ pub record Goes (p : Progress) (w : Pass) (r : Progress) (os′ : List ℕ) : Ty
   pub pass : passOf os′ r ≡ w
   pub advanced : Advanced p r
 
-pub record Steps (p : Progress) (w : Judged Pass) (r : Stepped) (os′ : List ℕ) : Type 0 where
+pub record Steps (p : Progress) (w : Outcome Pass) (r : Stepped) (os′ : List ℕ) : Type 0 where
   pub answer : judgedPass os′ r ≡ w
   pub advanced : AdvancedBy p r

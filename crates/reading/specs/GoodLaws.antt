@@ -11,6 +11,7 @@ use lib.ListN.{length, getD, List·getD-eq-default}
 use Rattle.basics.specs.Tests.{Cmp, cmp}
 use Rattle.basics.specs.Tests.Cmp.{below, equal as alike, above}
 use Rattle.refusal.specs.declared.Refusal.the-variants.{Name, Arity, Range, Unbound, Variables}
+use Rattle.refusal.specs.Outcome.{Outcome, ok, refused, andThen}
 use Rattle.label.specs.Limits.{constantCount, firstParameter, parameterCount, firstVariable, variableCount, firstMinimum, minimumCount, termBase, predicateCount, equality, equalityArity}
 use Rattle.label.specs.Terms.{isConstant, isParameter, isVariable, isMinimum, isTerm}
 use Rattle.label.specs.Labels.{areArities, placeFits, inOrder, atomFrom, packed, unpacked, predicateOf, labelOf, equates, testOf}
@@ -34,11 +35,10 @@ use Rattle.names.specs.Keys.{placeOf, isAmong}
 use Rattle.events.specs.Events.{diagramEvents}
 use Rattle.reading.specs.declared.Binding.{Binding}
 use Rattle.reading.specs.declared.Binding.the-variants.{Any, None, Only}
-use Rattle.reading.specs.Reading.{Names, Judged, andThen, constantNumber, parameterNumber, met, Met, lastVariable, numberIn}
+use Rattle.reading.specs.Reading.{Names, constantNumber, parameterNumber, met, Met, lastVariable, numberIn}
 use Rattle.reading.specs.Reading.{variableNumber, minimumNumber, variableMet, minimumMet, Written, isWithin, reading}
-use Rattle.reading.specs.Reading.Judged.{fine, refused}
 use Rattle.reading.specs.AllLaws.{all-at}
-use Rattle.reading.specs.JudgedLaws.{apart, fine-one, chosen, passed, chained}
+use Rattle.reading.specs.OutcomeLaws.{apart, ok-one, chosen, passed, chained}
 use Rattle.reading.specs.Tree.{Reading, Result, having, resolveTerm, resolveTerms, testing, resolveAtom, branching, resolveDiagram}
 use Rattle.reading.specs.Tree.{writing, diagramReading, depth, Reach, Named, maximumReach, reach, GoodTest, GoodReading, NamesFit, Sound}
 use Rattle.reading.specs.Tree.Reading.{branch}
@@ -50,10 +50,11 @@ among-below : (k : Key) (ks : List Key) → isAmong k ks ≡ true → placeOf k 
 unfolding isAmong
 among-below k ks e = ltb-true (placeOf k ks) (length ks) e
 
-had : {A : Type 0} (m : Met) (j : Judged A) (g : Result A) → having m j ≡ fine g → (j ≡ fine (g .value)) × (m ≡ g .met)
-had {A} m (fine x) g e =
+-- an answer with the variables met, taken apart
+pub had : {A : Type 0} (m : Met) (j : Outcome A) (g : Result A) → having m j ≡ ok g → (j ≡ ok (g .value)) × (m ≡ g .met)
+had {A} m (ok x) g e =
     let z : _≡_ {A = Result A} (record { value = x; met = m }) g = cc in
-    (ap (λ (y : Result A). fine (y .value)) z, ap (λ (y : Result A). y .met) z)
+    (ap (λ (y : Result A). ok (y .value)) z, ap (λ (y : Result A). y .met) z)
 had m (refused r) g e = absurd (apart e)
 
 constant-term : (t : ℕ) → t < constantCount → isTerm t ≡ true
@@ -94,7 +95,7 @@ minimum-term i h =
     )
 
 module _ (c : ℕ) (n : Reach) where
-  constant-named : (ks : List Key) (k : Key) (t : ℕ) → length ks ≤ constantCount → constantNumber ks k ≡ fine t → Named c n t
+  constant-named : (ks : List Key) (k : Key) (t : ℕ) → length ks ≤ constantCount → constantNumber ks k ≡ ok t → Named c n t
   unfolding constantNumber
   constant-named ks k t h e =
       let p = passed (isAmong k ks) (placeOf k ks) Name t e in
@@ -127,7 +128,7 @@ module _ (c : ℕ) (n : Reach) where
         minimums = omega arith;
       }
 
-parameter-named : (n : Reach) (ks : List Key) (k : Key) (t : ℕ) → length ks ≤ parameterCount → parameterNumber ks k ≡ fine t → Named (length ks) n t
+parameter-named : (n : Reach) (ks : List Key) (k : Key) (t : ℕ) → length ks ≤ parameterCount → parameterNumber ks k ≡ ok t → Named (length ks) n t
 unfolding parameterNumber
 parameter-named n ks k t h e =
     let p = passed (isAmong k ks) (firstParameter + placeOf k ks) Unbound t e in
@@ -150,7 +151,7 @@ named-below c n t h = go (cmp t (firstVariable + n))
     go (above l) = absurd (omega (arith, h .variables (omega arith), h .minimums))
 
 -- a variable, by what may be named
-bound-named : (c : ℕ) (b : Binding) (m : Met) (k : Key) (t : ℕ) → variableNumber b (met b (m .variables) k) k ≡ fine t
+bound-named : (c : ℕ) (b : Binding) (m : Met) (k : Key) (t : ℕ) → variableNumber b (met b (m .variables) k) k ≡ ok t
     → Named c (reach b m) t × (reach b (variableMet b m k) ≡ reach b m)
 unfolding variableNumber met
 bound-named c Any m k t e =
@@ -162,7 +163,7 @@ bound-named c Only m k t e =
     (variable-named c (reach Only m) (m .variables) k t (p .1) (omega (arith, among-below k (m .variables) (p .0))), refl)
 
 -- a minimum variable: in a reward
-lowest-named : (c : ℕ) (b : Binding) (m : Met) (k : Key) (t : ℕ) → minimumNumber b (met b (m .minimums) k) k ≡ fine t
+lowest-named : (c : ℕ) (b : Binding) (m : Met) (k : Key) (t : ℕ) → minimumNumber b (met b (m .minimums) k) k ≡ ok t
     → Named c (reach b m) t × (reach b (minimumMet b m k) ≡ reach b m)
 unfolding minimumNumber
 lowest-named c Any m k t e =
@@ -182,7 +183,7 @@ names-resolving σ f vs = record { each = each }
     Q : Met → Type 0
     Q us = reach (σ .binding) us ≡ reach (σ .binding) vs
 
-    each : (us : Met) (t : T.Term) (g : Result ℕ) → Q us → resolveTerm σ us t ≡ fine g → P (g .value) × Q (g .met)
+    each : (us : Met) (t : T.Term) (g : Result ℕ) → Q us → resolveTerm σ us t ≡ ok g → P (g .value) × Q (g .met)
     each us (term plain n) g q e =
         let h = had us (constantNumber (σ .constants) (keyOf n)) g e in
         (constant-named (length (σ .parameters)) (reach (σ .binding) vs) (σ .constants) (keyOf n) (g .value) (f .constants-few) (h .0), subst Q (h .1) q)
@@ -278,14 +279,14 @@ pub record Keeps {A : Type 0} (P : A → Type 0) (Q : Met → Type 0) (g : Resul
 
 module _ (σ : Names) (P : ℕ → Type 0) (Q : Met → Type 0) (fits : NamesFit σ) (w : (t : ℕ) → P t → isTerm t ≡ true) (s : Resolving σ P Q) where
   tested : (q : ℕ) (ts : List T.Term) (vs : Met) (g : Result Test) → Q vs → ((us : List ℕ) → length us ≡ length ts → T.All P us → GoodTest (σ .arities) P (testOf (atomFrom q us)))
-      → andThen (resolveTerms σ vs ts) (testing q) ≡ fine g → Keeps (GoodTest (σ .arities) P) Q g
+      → andThen (resolveTerms σ vs ts) (testing q) ≡ ok g → Keeps (GoodTest (σ .arities) P) Q g
   tested q ts vs g k f e =
       let c = chained (resolveTerms σ vs ts) (testing q) g e in
       let r = terms-resolved σ P Q s ts vs (c .first) k (c .answers) in
-      let z : _≡_ {A = Result Test} (record { value = testOf (atomFrom q (c .first .value)); met = c .first .met }) g = fine-one (c .then) in
+      let z : _≡_ {A = Result Test} (record { value = testOf (atomFrom q (c .first .value)); met = c .first .met }) g = ok-one (c .then) in
       subst (Keeps (GoodTest (σ .arities) P) Q) z (record { value-good = f (c .first .value) (r .count) (r .all); met-still = r .met-still })
 
-  atom-good : (a : T.Atom) (vs : Met) (g : Result Test) → Q vs → resolveAtom σ vs a ≡ fine g → Keeps (GoodTest (σ .arities) P) Q g
+  atom-good : (a : T.Atom) (vs : Met) (g : Result Test) → Q vs → resolveAtom σ vs a ≡ ok g → Keeps (GoodTest (σ .arities) P) Q g
   atom-good (equal a b) vs g k e = tested equality (a ∷ b ∷ []) vs g k (λ us. equal-terms us) e
     where
       equal-terms : (us : List ℕ) → length us ≡ equalityArity → T.All P us → GoodTest (σ .arities) P (testOf (atomFrom equality us))
@@ -302,7 +303,7 @@ module _ (σ : Names) (P : ℕ → Type 0) (Q : Met → Type 0) (fits : NamesFit
       tested q ts vs g k (λ us m a. test-good (σ .arities) P w q us (m ∙ n) a (omega arith) (omega (arith, fits .predicates-few))) (d .1)
 
   -- diagrams
-  diagram-good : (d : T.Diagram) (vs : Met) (g : Result Reading) → Q vs → resolveDiagram σ vs d ≡ fine g
+  diagram-good : (d : T.Diagram) (vs : Met) (g : Result Reading) → Q vs → resolveDiagram σ vs d ≡ ok g
       → Keeps (λ r. GoodReading (σ .arities) P r × (depth r ≤ T.brackets d)) Q g
   diagram-good (numeral n) vs g k e =
       let c = passed (leb (valueOf n) highestValue) _ Range g e in
@@ -315,7 +316,7 @@ module _ (σ : Names) (P : ℕ → Type 0) (Q : Met → Type 0) (fits : NamesFit
       let y = diagram-good d (c .first .met) (c₁ .first) (x .met-still) (c₁ .answers) in
       let c₂ = chained (resolveDiagram σ (c₁ .first .met) e) (branching (c .first .value) (c₁ .first .value)) g (c₁ .then) in
       let v = diagram-good e (c₁ .first .met) (c₂ .first) (y .met-still) (c₂ .answers) in
-      let u : _≡_ {A = Result Reading} (record { value = branch (c .first .value) (c₁ .first .value) (c₂ .first .value); met = c₂ .first .met }) g = fine-one (c₂ .then) in
+      let u : _≡_ {A = Result Reading} (record { value = branch (c .first .value) (c₁ .first .value) (c₂ .first .value); met = c₂ .first .met }) g = ok-one (c₂ .then) in
       subst (Keeps (λ r. GoodReading (σ .arities) P r × (depth r ≤ T.brackets (conditional a d e))) Q) u
       (record {
         value-good = ((x .value-good, y .value-good .0, v .value-good .0), omega (arith, y .value-good .1, v .value-good .1));
@@ -323,7 +324,7 @@ module _ (σ : Names) (P : ℕ → Type 0) (Q : Met → Type 0) (fits : NamesFit
       })
 
 -- the words of a line with a diagram, not refused, come to the operations of a good diagram
-pub reading-sound : (σ : Names) → NamesFit σ → (d : T.Diagram) (vs : Met) (w : Written) → reading σ (diagramEvents d) vs ≡ fine w → Sound σ vs d w
+pub reading-sound : (σ : Names) → NamesFit σ → (d : T.Diagram) (vs : Met) (w : Written) → reading σ (diagramEvents d) vs ≡ ok w → Sound σ vs d w
 unfolding diagramReading
 reading-sound σ f d vs w e =
     let c = chained (resolveDiagram σ vs d) writing w (sym (reading-diagram σ d vs) ∙ e) in

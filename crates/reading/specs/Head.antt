@@ -6,6 +6,7 @@ use mathlib.Core.List.{List, [], _∷_, _++_}
 use lib.Dec.{eqb}
 use lib.ListN.{length}
 use Rattle.refusal.specs.declared.Refusal.the-variants.{Form, Name, Arity}
+use Rattle.refusal.specs.Outcome.{Outcome, ok, refused}
 use Rattle.words.specs.Keys.{keyOf}
 use Rattle.words.specs.declared.Key.{Key}
 use Rattle.names.specs.Keys.{placeOf, isAmong}
@@ -15,8 +16,6 @@ use Rattle.reading.specs.declared.Opening.{Opening}
 use Rattle.reading.specs.declared.Opening.the-variants as O
 use Rattle.reading.specs.declared.Argument.{Argument}
 use Rattle.reading.specs.declared.Argument.the-variants as A
-use Rattle.reading.specs.Reading.{Judged}
-use Rattle.reading.specs.Reading.Judged.{fine, refused}
 
 -- an atom's name with its count of terms, or another word
 abbrev pub openingOf : Event → Opening
@@ -43,11 +42,11 @@ argumentOf E.Step = A.Other
 argumentOf E.End = A.Other
 
 -- the predicate's number, the declared predicates ks numbered from 1, or 2
-unfoldable pub openedNumber : List Key → Opening → Judged ℕ
-openedNumber ks (O.Atom k n) = cond (isAmong k ks) (fine (placeOf k ks + 1)) (refused Name)
+unfoldable pub openedNumber : List Key → Opening → Outcome ℕ
+openedNumber ks (O.Atom k n) = cond (isAmong k ks) (ok (placeOf k ks + 1)) (refused Name)
 openedNumber ks O.Other = refused Form
 
-unfoldable pub headNumber : List Key → List Event → Judged ℕ
+unfoldable pub headNumber : List Key → List Event → Outcome ℕ
 headNumber ks [] = refused Form
 headNumber ks (e ∷ es) = openedNumber ks (openingOf e)
 
@@ -56,30 +55,30 @@ pub record Head : Type 0 where
   pub variables : List Key
   pub rest : List Event
 
-abbrev pub pickArgument : Argument → (Key → Judged Head) → Judged Head
+abbrev pub pickArgument : Argument → (Key → Outcome Head) → Outcome Head
 pickArgument (A.Named k) f = f k
 pickArgument A.Other f = refused Form
 
 -- n arguments more, the keys vs before them: one that was there is 2
-unfoldable pub argumentsFrom : ℕ → List Key → List Event → Judged Head
-argumentsFrom zero vs es = fine (record { variables = vs; rest = es })
+unfoldable pub argumentsFrom : ℕ → List Key → List Event → Outcome Head
+argumentsFrom zero vs es = ok (record { variables = vs; rest = es })
 argumentsFrom (suc n) vs [] = refused Form
 argumentsFrom (suc n) vs (e ∷ es) =
     pickArgument (argumentOf e) (λ k. cond (isAmong k vs) (refused Name) (argumentsFrom n (vs ++ (k ∷ [])) es))
 
 -- the head of a predicate of the arity n: another count is 3
-abbrev pub openedArguments : ℕ → Opening → List Event → Judged Head
+abbrev pub openedArguments : ℕ → Opening → List Event → Outcome Head
 openedArguments n (O.Atom k m) es = cond (eqb m n) (argumentsFrom n [] es) (refused Arity)
 openedArguments n O.Other es = refused Form
 
-unfoldable pub headArguments : ℕ → List Event → Judged Head
+unfoldable pub headArguments : ℕ → List Event → Outcome Head
 headArguments n [] = refused Form
 headArguments n (e ∷ es) = openedArguments n (openingOf e) es
 
 -- the same on the line's tree: the keys of the arguments vs, behind the keys ks
-abbrev pub argumentKeys : List Key → List (List ℕ) → Judged (List Key)
-argumentKeys ks [] = fine ks
+abbrev pub argumentKeys : List Key → List (List ℕ) → Outcome (List Key)
+argumentKeys ks [] = ok ks
 argumentKeys ks (v ∷ vs) = cond (isAmong (keyOf v) ks) (refused Name) (argumentKeys (ks ++ (keyOf v ∷ [])) vs)
 
-abbrev pub headKeys : ℕ → List (List ℕ) → Judged (List Key)
+abbrev pub headKeys : ℕ → List (List ℕ) → Outcome (List Key)
 headKeys n vs = cond (eqb (length vs) n) (argumentKeys [] vs) (refused Arity)

@@ -8,9 +8,9 @@ use borrow.Author.Tests.{eqb-true}
 use lib.Dec.{eqb}
 use lib.ListN.{length, drop, length-append}
 use Rattle.refusal.specs.declared.Refusal.the-variants.{Name, Arity}
+use Rattle.refusal.specs.Outcome.{Outcome, ok, refused, andThen}
 use Rattle.words.specs.Keys.{keyOf}
 use Rattle.words.specs.declared.Key.{Key}
-use Rattle.forms.specs.Tree as T
 use Rattle.text.specs.declared.Kind.the-variants.{Variant, Becomes}
 use Rattle.text.specs.Line.{Words, GoodWords, lineBytes}
 use Rattle.text.specs.Line.Line.{line}
@@ -21,10 +21,8 @@ use Rattle.events.specs.Events.{firstWord, nameEvent, variableEvent, diagramEve
 use Rattle.events.specs.Front.{isEnd, nextAt, eventsOf}
 use Rattle.events.specs.FrontLaws.{next-end, next-more}
 use Rattle.events.specs.LineEvents.{line-events}
-use Rattle.reading.specs.Reading.{Judged, andThen}
-use Rattle.reading.specs.Reading.Judged.{fine, refused}
 use Rattle.reading.specs.Head.{Head, argumentsFrom, headArguments, argumentKeys, headKeys}
-use Rattle.reading.specs.JudgedLaws.{apart}
+use Rattle.reading.specs.OutcomeLaws.{apart}
 
 -- the event at a place, where the events from there on are known
 pub record Splits (s : List ℕ) (i : ℕ) (e : Event) (es : List Event) : Type 0 where
@@ -49,8 +47,8 @@ variant-words w g = next-splits (lineBytes (line Variant w)) (firstWord Variant)
 
 -- (becomes (p ?a ..) DIAGRAM)
 
-abbrev headed : List Event → List Key → Judged Head
-headed es ks = fine (record { variables = ks; rest = es })
+abbrev headed : List Event → List Key → Outcome Head
+headed es ks = ok (record { variables = ks; rest = es })
 
 keys-from : (vs : List (List ℕ)) (ks : List Key) (es : List Event)
     → argumentsFrom (length vs) ks (map variableEvent vs ++ es) ≡ andThen (argumentKeys ks vs) (headed es)
@@ -81,11 +79,11 @@ becomes-arguments n w g = ap (headArguments n) (line-events Becomes w g) ∙ hea
 
 -- accepted, there are as many arguments as the arity says
 
-keys-count : (vs : List (List ℕ)) (ks rs : List Key) → argumentKeys ks vs ≡ fine rs → length rs ≡ length ks + length vs
+keys-count : (vs : List (List ℕ)) (ks rs : List Key) → argumentKeys ks vs ≡ ok rs → length rs ≡ length ks + length vs
 keys-count [] ks rs e = let z : ks ≡ rs = cc in omega (arith, ap length z)
 keys-count (v ∷ vs) ks rs e = go (isAmong (keyOf v) ks) (keys-count vs (ks ++ (keyOf v ∷ [])) rs) e
   where
-    go : (b : Bool) → (argumentKeys (ks ++ (keyOf v ∷ [])) vs ≡ fine rs → length rs ≡ length (ks ++ (keyOf v ∷ [])) + length vs)
-        → cond b (refused Name) (argumentKeys (ks ++ (keyOf v ∷ [])) vs) ≡ fine rs → length rs ≡ length ks + suc (length vs)
+    go : (b : Bool) → (argumentKeys (ks ++ (keyOf v ∷ [])) vs ≡ ok rs → length rs ≡ length (ks ++ (keyOf v ∷ [])) + length vs)
+        → cond b (refused Name) (argumentKeys (ks ++ (keyOf v ∷ [])) vs) ≡ ok rs → length rs ≡ length ks + suc (length vs)
     go true ih e = absurd (apart e)
     go false ih e = omega (arith, ih e, length-append ks (keyOf v ∷ []))

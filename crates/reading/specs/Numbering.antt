@@ -5,6 +5,7 @@ use mathlib.Core.Bool.{Bool, true, false, _&&_, cond}
 use mathlib.Core.List.{List, [], _∷_}
 use lib.Dec.{eqb, ltb}
 use lib.ListN.{length, getD, drop}
+use Rattle.refusal.specs.Outcome.{Outcome}
 use Rattle.words.specs.Bytes.{decimal}
 use Rattle.words.specs.Words.{numberForm}
 use Rattle.words.specs.Keys.{nameOf}
@@ -12,7 +13,7 @@ use Rattle.words.specs.declared.Key.{Key}
 use Rattle.words.specs.declared.Took.{Took}
 use Rattle.words.specs.declared.Took.the-variants.{Bytes, Refused}
 use Rattle.events.specs.declared.Event.{Event}
-use Rattle.reading.specs.Reading.{Names, Judged, Met, Written, reading}
+use Rattle.reading.specs.Reading.{Names, Met, Written, reading}
 use Rattle.reading.specs.Occurrences.{variableKeys, minimumKeys}
 
 -- the byte v
@@ -58,5 +59,5 @@ abbrev pub metFirst : List Event → Met
 metFirst es = record { variables = variablesFirst (variableKeys es); minimums = variablesFirst (minimumKeys es) }
 
 -- the words of a reward: the pass, begun with these, numbers a variable by its place among them, and any other one by first occurrence
-unfoldable pub rewardReading : Names → List Event → Judged Written
+unfoldable pub rewardReading : Names → List Event → Outcome Written
 rewardReading σ es = reading σ es (metFirst es)

@@ -12,6 +12,7 @@ use lib.ListN.{length, getD, length-append}
 use Rattle.basics.specs.Tests.{Cmp, below, equal, above, cmp}
 use Rattle.refusal.specs.declared.Refusal.{Refusal}
 use Rattle.refusal.specs.declared.Refusal.the-variants as F
+use Rattle.refusal.specs.Outcome.{Outcome, ok, refused, andThen}
 use Rattle.label.specs.Limits.{variableCount, minimumCount, equality, equalityArity}
 use Rattle.label.specs.Labels.{atomFrom, testOf}
 use Rattle.diagram.specs.Sizes.{highestValue}
@@ -23,9 +24,9 @@ use Rattle.events.specs.declared.Event.the-variants as E
 use Rattle.reading.specs.declared.Binding.{Binding}
 use Rattle.reading.specs.declared.Binding.the-variants.{Any, None, Only}
 use Rattle.reading.specs.Operations.Op.{ask}
-use Rattle.reading.specs.Reading.{Names, Judged, andThen, met, Met, metAt, Pass, more, asked, beginning, begun, filling, termWord}
+use Rattle.reading.specs.Reading.{Names, met, Met, metAt, Pass, more, asked, beginning, begun, filling, termWord}
 use Rattle.reading.specs.Reading.{numberWord, atomWord, constantNumber, parameterNumber, variableNumber, minimumNumber, word, State, with-pass, readWords, isWithin, finished, begin, reading}
-use Rattle.reading.specs.Reading.Judged.{fine, refused}
+use Rattle.reading.specs.OutcomeLaws.{Match}
 use Rattle.reading.specs.Occurrences.{variableKeys, minimumKeys}
 use Rattle.reading.specs.Numbering.{numberOf, allNumbered, inserted, byNumber, variablesFirst, metFirst, rewardReading}
 use Rattle.reading.specs.Gathering.{moved, movedIn, gathered, keptFirst, keptMet}
@@ -103,24 +104,17 @@ kept-alike ks = go (allNumbered ks)
 
 -- ===== The first fault, and 8 =====
 
--- both are answers, or both are the same refusal
-abbrev Both : {A : Type 0} → (A → A → Type 0) → Judged A → Judged A → Type 0
-Both P (fine x) (fine y) = P x y
-Both P (fine x) (refused s) = ⊥
-Both P (refused r) (fine y) = ⊥
-Both P (refused r) (refused s) = r ≡ s
-
 -- as many terms are due
 abbrev Due : Pass → Pass → Type 0
 Due p q = p .due ≡ q .due
 
-both-same : {A : Type 0} (P : A → A → Type 0) (j : Judged A) → ((x : A) → P x x) → Both P j j
-both-same P (fine x) f = f x
-both-same P (refused r) f = refl
+match-same : {A : Type 0} (P : A → A → Type 0) (o : Outcome A) → ((x : A) → P x x) → Match P o o
+match-same P (ok x) f = f x
+match-same P (refused r) f = refl
 
-both-test : {A : Type 0} (P : A → A → Type 0) (b : Bool) (i j : Judged A) (r : Refusal) → Both P i j → Both P (cond b i (refused r)) (cond b j (refused r))
-both-test P true i j r m = m
-both-test P false i j r m = refl
+match-test : {A : Type 0} (P : A → A → Type 0) (b : Bool) (o p : Outcome A) (r : Refusal) → Match P o p → Match P (cond b o (refused r)) (cond b p (refused r))
+match-test P true o p r m = m
+match-test P false o p r m = refl
 
 asked-same : (p : Pass) → asked p .due ≡ p .due
 unfolding asked
@@ -135,18 +129,18 @@ unfolding begun
 begun-same p q r n = asked-same (beginning p r n) ∙ sym (asked-same (beginning q r n))
 
 -- a term, whatever its number
-term-both : (p q : Pass) (i j : Judged ℕ) → Due p q → Both (λ x y. Unit {0}) i j → Both Due (termWord p i) (termWord q j)
+term-match : (p q : Pass) (i j : Outcome ℕ) → Due p q → Match (λ x y. Unit {0}) i j → Match Due (termWord p i) (termWord q j)
 unfolding termWord
-term-both p q (fine x) (fine y) d m =
-    subst (λ (n : ℕ). Both Due (cond (eqb (p .due) 0) (refused F.Form) (fine (asked (filling p x)))) (cond (eqb n 0) (refused F.Form) (fine (asked (filling q y))))) d
+term-match p q (ok x) (ok y) d m =
+    subst (λ (n : ℕ). Match Due (cond (eqb (p .due) 0) (refused F.Form) (ok (asked (filling p x)))) (cond (eqb n 0) (refused F.Form) (ok (asked (filling q y))))) d
     (go (eqb (p .due) 0))
   where
-    go : (b : Bool) → Both Due (cond b (refused F.Form) (fine (asked (filling p x)))) (cond b (refused F.Form) (fine (asked (filling q y))))
+    go : (b : Bool) → Match Due (cond b (refused F.Form) (ok (asked (filling p x)))) (cond b (refused F.Form) (ok (asked (filling q y))))
     go true = refl
     go false = asked-same (filling p x) ∙ ap (λ (n : ℕ). n - 1) d ∙ sym (asked-same (filling q y))
-term-both p q (fine x) (refused s) d m = absurd m
-term-both p q (refused r) (fine y) d m = absurd m
-term-both p q (refused r) (refused s) d m = m
+term-match p q (ok x) (refused s) d m = absurd m
+term-match p q (refused r) (ok y) d m = absurd m
+term-match p q (refused r) (refused s) d m = m
 
 -- more variables of a kind than the limit
 pub data Over (m : Met) : Type 0 where
@@ -186,23 +180,23 @@ over-refused m (minimums h) = rw (lt-leb (length (m .minimums)) minimumCount h) 
     go false = refl
 
 module _ (σ : Names) (any : σ .binding ≡ Any) where
-  word-both : (us vs : Met) (p q : Pass) (e : Event) → Due p q → Both Due (word σ us p e) (word σ vs q e)
+  word-match : (us vs : Met) (p q : Pass) (e : Event) → Due p q → Match Due (word σ us p e) (word σ vs q e)
   unfolding word numberWord atomWord variableNumber minimumNumber
-  word-both us vs p q (E.Name k) d = term-both p q _ _ d (both-same _ (constantNumber (σ .constants) k) (λ x. tt))
-  word-both us vs p q (E.Variable k) d =
-      term-both p q (variableNumber (σ .binding) (us .variables) k) (variableNumber (σ .binding) (vs .variables) k) d
-      (subst (λ (b : Binding). Both (λ x y. Unit {0}) (variableNumber b (us .variables) k) (variableNumber b (vs .variables) k)) (sym any) tt)
-  word-both us vs p q (E.Parameter k) d = term-both p q _ _ d (both-same _ (parameterNumber (σ .parameters) k) (λ x. tt))
-  word-both us vs p q (E.Minimum k) d =
-      term-both p q (minimumNumber (σ .binding) (us .minimums) k) (minimumNumber (σ .binding) (vs .minimums) k) d
-      (subst (λ (b : Binding). Both (λ x y. Unit {0}) (minimumNumber b (us .minimums) k) (minimumNumber b (vs .minimums) k)) (sym any) tt)
-  word-both us vs p q (E.Number v) d = both-test Due (leb v highestValue) _ _ F.Range d
-  word-both us vs p q E.Equal d = begun-same p q equality equalityArity
-  word-both us vs p q (E.Holds k n) d =
-      both-test Due (isAmong k (σ .predicates)) _ _ F.Name
-      (both-test Due (eqb n (getD (σ .arities) (placeOf k (σ .predicates) + 1) 0)) _ _ F.Arity (begun-same p q (placeOf k (σ .predicates) + 1) n))
-  word-both us vs p q E.Step d = d
-  word-both us vs p q E.End d = d
+  word-match us vs p q (E.Name k) d = term-match p q _ _ d (match-same _ (constantNumber (σ .constants) k) (λ x. tt))
+  word-match us vs p q (E.Variable k) d =
+      term-match p q (variableNumber (σ .binding) (us .variables) k) (variableNumber (σ .binding) (vs .variables) k) d
+      (subst (λ (b : Binding). Match (λ x y. Unit {0}) (variableNumber b (us .variables) k) (variableNumber b (vs .variables) k)) (sym any) tt)
+  word-match us vs p q (E.Parameter k) d = term-match p q _ _ d (match-same _ (parameterNumber (σ .parameters) k) (λ x. tt))
+  word-match us vs p q (E.Minimum k) d =
+      term-match p q (minimumNumber (σ .binding) (us .minimums) k) (minimumNumber (σ .binding) (vs .minimums) k) d
+      (subst (λ (b : Binding). Match (λ x y. Unit {0}) (minimumNumber b (us .minimums) k) (minimumNumber b (vs .minimums) k)) (sym any) tt)
+  word-match us vs p q (E.Number v) d = match-test Due (leb v highestValue) _ _ F.Range d
+  word-match us vs p q E.Equal d = begun-same p q equality equalityArity
+  word-match us vs p q (E.Holds k n) d =
+      match-test Due (isAmong k (σ .predicates)) _ _ F.Name
+      (match-test Due (eqb n (getD (σ .arities) (placeOf k (σ .predicates) + 1) 0)) _ _ F.Arity (begun-same p q (placeOf k (σ .predicates) + 1) n))
+  word-match us vs p q E.Step d = d
+  word-match us vs p q E.End d = d
 
   abbrev Full : State → State → Type 0
   Full s t = Over (s .met) × Over (t .met)
@@ -210,31 +204,31 @@ module _ (σ : Names) (any : σ .binding ≡ Any) where
   abbrev at : Met → Pass → State
   at m p = record { met = m; pass = p }
 
-  words-both : (es : List Event) (us vs : Met) (p q : Pass) → Over us → Over vs → Due p q → Both Full (readWords σ es (at us p)) (readWords σ es (at vs q))
+  words-match : (es : List Event) (us vs : Met) (p q : Pass) → Over us → Over vs → Due p q → Match Full (readWords σ es (at us p)) (readWords σ es (at vs q))
   unfolding readWords
-  words-both [] us vs p q h l d = (h, l)
-  words-both (e ∷ es) us vs p q h l d =
+  words-match [] us vs p q h l d = (h, l)
+  words-match (e ∷ es) us vs p q h l d =
       let us′ = metAt (σ .binding) us e in
       let vs′ = metAt (σ .binding) vs e in
-      go us′ vs′ (word σ us′ p e) (word σ vs′ q e) (word-both us′ vs′ p q e d)
-      (λ x y. words-both es us′ vs′ x y (over-stays (σ .binding) us e h) (over-stays (σ .binding) vs e l))
+      go us′ vs′ (word σ us′ p e) (word σ vs′ q e) (word-match us′ vs′ p q e d)
+      (λ x y. words-match es us′ vs′ x y (over-stays (σ .binding) us e h) (over-stays (σ .binding) vs e l))
     where
-      go : (us vs : Met) (i j : Judged Pass) → Both Due i j → ((x y : Pass) → Due x y → Both Full (readWords σ es (at us x)) (readWords σ es (at vs y)))
-          → Both Full (andThen (with-pass us i) (readWords σ es)) (andThen (with-pass vs j) (readWords σ es))
-      go us vs (fine x) (fine y) m ih = ih x y m
-      go us vs (fine x) (refused s) m ih = absurd m
-      go us vs (refused r) (fine y) m ih = absurd m
+      go : (us vs : Met) (i j : Outcome Pass) → Match Due i j → ((x y : Pass) → Due x y → Match Full (readWords σ es (at us x)) (readWords σ es (at vs y)))
+          → Match Full (andThen (with-pass us i) (readWords σ es)) (andThen (with-pass vs j) (readWords σ es))
+      go us vs (ok x) (ok y) m ih = ih x y m
+      go us vs (ok x) (refused s) m ih = absurd m
+      go us vs (refused r) (ok y) m ih = absurd m
       go us vs (refused r) (refused s) m ih = m
 
   -- with more variables of a kind than the limit, the words come to their first fault, or to 8, whatever the order of the variables
   pub reading-many : (es : List Event) (us vs : Met) → Over us → Over vs → reading σ es us ≡ reading σ es vs
   unfolding reading
-  reading-many es us vs h l = go (readWords σ es (begin us)) (readWords σ es (begin vs)) (words-both es us vs _ _ h l refl)
+  reading-many es us vs h l = go (readWords σ es (begin us)) (readWords σ es (begin vs)) (words-match es us vs _ _ h l refl)
     where
-      go : (i j : Judged State) → Both Full i j → andThen i finished ≡ andThen j finished
-      go (fine s) (fine t) m = rw (over-refused (s .met) (m .0), over-refused (t .met) (m .1))
-      go (fine s) (refused r) m = absurd m
-      go (refused r) (fine t) m = absurd m
+      go : (i j : Outcome State) → Match Full i j → andThen i finished ≡ andThen j finished
+      go (ok s) (ok t) m = rw (over-refused (s .met) (m .0), over-refused (t .met) (m .1))
+      go (ok s) (refused r) m = absurd m
+      go (refused r) (ok t) m = absurd m
       go (refused r) (refused s) m = ap refused m
 
   -- ===== A reward's words =====

@@ -11,6 +11,7 @@ use lib.Dec.{leb}
 use lib.ListN.{length, take, length-append}
 use lib.Seq.{length-take-le, take-all, take-append-le}
 use Rattle.refusal.specs.declared.Refusal.the-variants as F
+use Rattle.refusal.specs.Outcome.{Outcome, ok, refused, andThen}
 use Rattle.label.specs.Limits.{variableCount}
 use Rattle.words.specs.declared.Key.{Key}
 use Rattle.names.specs.Keys.{isAmong}
@@ -19,11 +20,10 @@ use Rattle.events.specs.declared.Event.the-variants as E
 use Rattle.reading.specs.declared.Binding.{Binding}
 use Rattle.reading.specs.declared.Binding.the-variants.{Any}
 use Rattle.reading.specs.Operations.{Op}
-use Rattle.reading.specs.Reading.{Names, Judged, andThen, met, Met, arguments, metAt, Pass, word}
+use Rattle.reading.specs.Reading.{Names, met, Met, arguments, metAt, Pass, word}
 use Rattle.reading.specs.Reading.{State, with-pass, readWord, readWords, finished, begin, Written, written, reading}
-use Rattle.reading.specs.Reading.Judged.{fine, refused}
 use Rattle.reading.specs.Occurrences.{occurringMet}
-use Rattle.reading.specs.JudgedLaws.{apart, chained}
+use Rattle.reading.specs.OutcomeLaws.{apart, chained}
 
 -- those that are kept
 abbrev kept : List Key → List Key
@@ -78,12 +78,12 @@ met-all (E.Holds k n ∷ es) m = met-all es m
 met-all (E.Step ∷ es) m = met-all es m
 met-all (E.End ∷ es) m = met-all es m
 
-passed-on : (m : Met) (j : Judged Pass) (s : State) → with-pass m j ≡ fine s → m ≡ s .met
-passed-on m (fine p) s e =
+passed-on : (m : Met) (j : Outcome Pass) (s : State) → with-pass m j ≡ ok s → m ≡ s .met
+passed-on m (ok p) s e =
     let z : _≡_ {A = State} (record { met = m; pass = p }) s = cc in ap (λ (x : State). x .met) z
 passed-on m (refused r) s e = absurd (apart e)
 
-words-met : (σ : Names) (es : List Event) (s t : State) → readWords σ es s ≡ fine t → t .met ≡ metBy (σ .binding) (s .met) es
+words-met : (σ : Names) (es : List Event) (s t : State) → readWords σ es s ≡ ok t → t .met ≡ metBy (σ .binding) (s .met) es
 unfolding readWords
 words-met σ [] s t e = let z : s ≡ t = cc in ap (λ (x : State). x .met) (sym z)
 words-met σ (e ∷ es) s t p =
@@ -106,7 +106,7 @@ module _ (m : Met) (o : List Op) where
       rw (take-all (variableCount + 1) (m .variables) (omega arith), length-take-le (variableCount + 1) (m .minimums) l, lt-leb (length (m .minimums)) variableCount (omega arith))
       (refuses (leb (length (m .variables)) variableCount) _ _)
     where
-      refuses : (b : Bool) (x y : Written) → cond (b && false) (fine x) (refused F.Variables) ≡ cond (b && false) (fine y) (refused F.Variables)
+      refuses : (b : Bool) (x y : Written) → cond (b && false) (ok x) (refused F.Variables) ≡ cond (b && false) (ok y) (refused F.Variables)
       refuses true x y = refl
       refuses false x y = refl
 
@@ -119,7 +119,7 @@ module _ (m : Met) (o : List Op) where
       go (no h) l = many-variables (omega arith)
 
 -- a reward's words without a fault: 8 by all of their variables, kind by kind, or all of them in their order
-pub reading-counts : (σ : Names) → σ .binding ≡ Any → (es : List Event) (s : State) → readWords σ es (begin (arguments [])) ≡ fine s
+pub reading-counts : (σ : Names) → σ .binding ≡ Any → (es : List Event) (s : State) → readWords σ es (begin (arguments [])) ≡ ok s
     → reading σ es (arguments []) ≡ written (occurringMet (arguments []) es) (s .pass .operations)
 unfolding reading
 reading-counts σ b es s e =

@@ -5,8 +5,8 @@ use mathlib.Core.Bool.{Bool, _&&_, cond}
 use mathlib.Core.List.{List, [], _∷_, _++_}
 use lib.Dec.{eqb, leb}
 use lib.ListN.{length, getD}
-use Rattle.refusal.specs.declared.Refusal.{Refusal}
 use Rattle.refusal.specs.declared.Refusal.the-variants.{Form, Name, Arity, Range, Unbound, Variables}
+use Rattle.refusal.specs.Outcome.{Outcome, ok, refused, andThen}
 use Rattle.label.specs.Limits.{firstVariable, variableCount, firstMinimum, minimumCount, equality, equalityArity}
 use Rattle.label.specs.Terms.{constantTerm, parameterTerm}
 use Rattle.label.specs.Labels.{atomFrom, testOf}
@@ -29,25 +29,15 @@ pub record Names : Type 0 where
   pub parameters : List Key
   pub binding : Binding
 
--- an answer, or the refusal
-pub data Judged (A : Type 0) : Type 0 where
-  fine : A → Judged A
-  refused : Refusal → Judged A
-
--- first x, then f of what it answers
-abbrev pub andThen : {A B : Type 0} → Judged A → (A → Judged B) → Judged B
-andThen (fine x) f = f x
-andThen (refused r) f = refused r
-
 -- terms
 
 -- a name is a declared constant, or 2
-unfoldable pub constantNumber : List Key → Key → Judged ℕ
-constantNumber ks k = cond (isAmong k ks) (fine (constantTerm (placeOf k ks))) (refused Name)
+unfoldable pub constantNumber : List Key → Key → Outcome ℕ
+constantNumber ks k = cond (isAmong k ks) (ok (constantTerm (placeOf k ks))) (refused Name)
 
 -- !name is a parameter 'of this action', or 6
-unfoldable pub parameterNumber : List Key → Key → Judged ℕ
-parameterNumber ks k = cond (isAmong k ks) (fine (parameterTerm (placeOf k ks))) (refused Unbound)
+unfoldable pub parameterNumber : List Key → Key → Outcome ℕ
+parameterNumber ks k = cond (isAmong k ks) (ok (parameterTerm (placeOf k ks))) (refused Unbound)
 
 -- the variables of one kind met so far, in the order of their first occurrence, after ?name or %name. One more than the limit is kept: a line
 -- with more than that many is refused whatever the others are
@@ -75,14 +65,14 @@ unfoldable pub numberIn : ℕ → List Key → Key → ℕ
 numberIn first vs k = first + min (placeOf k vs) lastVariable
 
 -- ?name: in a reward any, in a weight none (6), in a truth diagram an argument or 6
-unfoldable pub variableNumber : Binding → List Key → Key → Judged ℕ
-variableNumber Any vs k = fine (numberIn firstVariable vs k)
+unfoldable pub variableNumber : Binding → List Key → Key → Outcome ℕ
+variableNumber Any vs k = ok (numberIn firstVariable vs k)
 variableNumber None vs k = refused Unbound
-variableNumber Only vs k = cond (isAmong k vs) (fine (numberIn firstVariable vs k)) (refused Unbound)
+variableNumber Only vs k = cond (isAmong k vs) (ok (numberIn firstVariable vs k)) (refused Unbound)
 
 -- %name: 'Allow %name in rewards as a minimum variable' (document 02, L12); in a weight and in a truth diagram it is 6
-unfoldable pub minimumNumber : Binding → List Key → Key → Judged ℕ
-minimumNumber Any vs k = fine (numberIn firstMinimum vs k)
+unfoldable pub minimumNumber : Binding → List Key → Key → Outcome ℕ
+minimumNumber Any vs k = ok (numberIn firstMinimum vs k)
 minimumNumber None vs k = refused Unbound
 minimumNumber Only vs k = refused Unbound
 
@@ -115,19 +105,19 @@ abbrev pub filling : Pass → ℕ → Pass
 filling p t = record { predicate = p .predicate; terms = p .terms ++ (t ∷ []); due = p .due - 1; operations = p .operations }
 
 -- where no term is due the line is not the grammar
-unfoldable pub termWord : Pass → Judged ℕ → Judged Pass
-termWord p (fine t) = cond (eqb (p .due) 0) (refused Form) (fine (asked (filling p t)))
+unfoldable pub termWord : Pass → Outcome ℕ → Outcome Pass
+termWord p (ok t) = cond (eqb (p .due) 0) (refused Form) (ok (asked (filling p t)))
 termWord p (refused r) = refused r
 
 -- a leaf: 'number outside its range' is 4
-unfoldable pub numberWord : Pass → ℕ → Judged Pass
-numberWord p v = cond (leb v highestValue) (fine (more p (leafOp v))) (refused Range)
+unfoldable pub numberWord : Pass → ℕ → Outcome Pass
+numberWord p v = cond (leb v highestValue) (ok (more p (leafOp v))) (refused Range)
 
 -- the name of an atom with n terms behind it: a declared predicate, or 2; n its arity, or 3
-unfoldable pub atomWord : Names → Pass → Key → ℕ → Judged Pass
+unfoldable pub atomWord : Names → Pass → Key → ℕ → Outcome Pass
 atomWord σ p k n =
     cond (isAmong k (σ .predicates))
-    (cond (eqb n (getD (σ .arities) (placeOf k (σ .predicates) + 1) 0)) (fine (begun p (placeOf k (σ .predicates) + 1) n)) (refused Arity))
+    (cond (eqb n (getD (σ .arities) (placeOf k (σ .predicates) + 1) 0)) (ok (begun p (placeOf k (σ .predicates) + 1) n)) (refused Arity))
     (refused Name)
 
 -- words
@@ -152,32 +142,32 @@ metAt b m E.Step = m
 metAt b m E.End = m
 
 -- a word, judged with the variables m
-unfoldable pub word : Names → Met → Pass → Event → Judged Pass
+unfoldable pub word : Names → Met → Pass → Event → Outcome Pass
 word σ m p (E.Name k) = termWord p (constantNumber (σ .constants) k)
 word σ m p (E.Variable k) = termWord p (variableNumber (σ .binding) (m .variables) k)
 word σ m p (E.Parameter k) = termWord p (parameterNumber (σ .parameters) k)
 word σ m p (E.Minimum k) = termWord p (minimumNumber (σ .binding) (m .minimums) k)
 word σ m p (E.Number v) = numberWord p v
-word σ m p E.Equal = fine (begun p equality equalityArity)
+word σ m p E.Equal = ok (begun p equality equalityArity)
 word σ m p (E.Holds k n) = atomWord σ p k n
-word σ m p E.Step = fine (more p step)
-word σ m p E.End = fine p
+word σ m p E.Step = ok (more p step)
+word σ m p E.End = ok p
 
 -- how far the words are read: the variables met, and the pass
 pub record State : Type 0 where
   pub met : Met
   pub pass : Pass
 
-abbrev pub with-pass : Met → Judged Pass → Judged State
-with-pass m (fine p) = fine (record { met = m; pass = p })
+abbrev pub with-pass : Met → Outcome Pass → Outcome State
+with-pass m (ok p) = ok (record { met = m; pass = p })
 with-pass m (refused r) = refused r
 
-abbrev pub readWord : Names → State → Event → Judged State
+abbrev pub readWord : Names → State → Event → Outcome State
 readWord σ s e = with-pass (metAt (σ .binding) (s .met) e) (word σ (metAt (σ .binding) (s .met) e) (s .pass) e)
 
 -- all words: the first fault decides
-unfoldable pub readWords : Names → List Event → State → Judged State
-readWords σ [] s = fine s
+unfoldable pub readWords : Names → List Event → State → Outcome State
+readWords σ [] s = ok s
 readWords σ (e ∷ es) s = andThen (readWord σ s e) (readWords σ es)
 
 -- the whole pass
@@ -192,10 +182,10 @@ abbrev pub isWithin : Met → Bool
 isWithin m = leb (length (m .variables)) variableCount && leb (length (m .minimums)) minimumCount
 
 -- after all words, more variables of a kind than the limit are 8
-abbrev pub written : Met → List Op → Judged Written
-written m o = cond (isWithin m) (fine (record { met = m; operations = o })) (refused Variables)
+abbrev pub written : Met → List Op → Outcome Written
+written m o = cond (isWithin m) (ok (record { met = m; operations = o })) (refused Variables)
 
-abbrev pub finished : State → Judged Written
+abbrev pub finished : State → Outcome Written
 finished s = written (s .met) (s .pass .operations)
 
 abbrev pub begin : Met → State
@@ -205,5 +195,5 @@ begin m = record {
 }
 
 -- the words es, the variables m known before them
-unfoldable pub reading : Names → List Event → Met → Judged Written
+unfoldable pub reading : Names → List Event → Met → Outcome Written
 reading σ es m = andThen (readWords σ es (begin m)) finished

@@ -6,6 +6,7 @@ use mathlib.Core.List.{List, [], _∷_, _++_}
 use lib.Dec.{eqb, leb}
 use lib.ListN.{length, getD}
 use Rattle.refusal.specs.declared.Refusal.the-variants.{Name, Arity, Range}
+use Rattle.refusal.specs.Outcome.{Outcome, ok, refused, andThen}
 use Rattle.label.specs.Limits.{constantCount, firstParameter, parameterCount, firstVariable, variableCount, firstMinimum, minimumCount, predicateCount, equality}
 use Rattle.label.specs.Terms.{isTerm}
 use Rattle.label.specs.Labels.{areArities, atomFrom, testOf, isLabel}
@@ -25,9 +26,8 @@ use Rattle.reading.specs.declared.Binding.{Binding}
 use Rattle.reading.specs.declared.Binding.the-variants.{Any, None, Only}
 use Rattle.reading.specs.Operations.{Op}
 use Rattle.reading.specs.Operations.Op.{leafOp, ask, step}
-use Rattle.reading.specs.Reading.{Names, Judged, andThen, constantNumber, parameterNumber, met, Met, variableNumber}
+use Rattle.reading.specs.Reading.{Names, constantNumber, parameterNumber, met, Met, variableNumber}
 use Rattle.reading.specs.Reading.{minimumNumber, variableMet, minimumMet, Written, isWithin, written}
-use Rattle.reading.specs.Reading.Judged.{fine, refused}
 
 -- a diagram as it is written, each atom as what it asks
 pub data Reading : Type 0 where
@@ -39,11 +39,11 @@ pub record Result (A : Type 0) : Type 0 where
   pub value : A
   pub met : Met
 
-abbrev pub having : {A : Type 0} → Met → Judged A → Judged (Result A)
-having m (fine x) = fine (record { value = x; met = m })
+abbrev pub having : {A : Type 0} → Met → Outcome A → Outcome (Result A)
+having m (ok x) = ok (record { value = x; met = m })
 having m (refused r) = refused r
 
-abbrev pub resolveTerm : Names → Met → T.Term → Judged (Result ℕ)
+abbrev pub resolveTerm : Names → Met → T.Term → Outcome (Result ℕ)
 resolveTerm σ m (term plain n) = having m (constantNumber (σ .constants) (keyOf n))
 resolveTerm σ m (term variable n) =
     having (variableMet (σ .binding) m (keyOf n)) (variableNumber (σ .binding) (met (σ .binding) (m .variables) (keyOf n)) (keyOf n))
@@ -51,18 +51,18 @@ resolveTerm σ m (term parameter n) = having m (parameterNumber (σ .parameters)
 resolveTerm σ m (term minimum n) =
     having (minimumMet (σ .binding) m (keyOf n)) (minimumNumber (σ .binding) (met (σ .binding) (m .minimums) (keyOf n)) (keyOf n))
 
-abbrev pub joined : ℕ → Result (List ℕ) → Judged (Result (List ℕ))
-joined t g = fine (record { value = t ∷ g .value; met = g .met })
+abbrev pub joined : ℕ → Result (List ℕ) → Outcome (Result (List ℕ))
+joined t g = ok (record { value = t ∷ g .value; met = g .met })
 
-abbrev pub resolveTerms : Names → Met → List T.Term → Judged (Result (List ℕ))
-resolveTerms σ m [] = fine (record { value = []; met = m })
+abbrev pub resolveTerms : Names → Met → List T.Term → Outcome (Result (List ℕ))
+resolveTerms σ m [] = ok (record { value = []; met = m })
 resolveTerms σ m (t ∷ ts) = andThen (resolveTerm σ m t) (λ g. andThen (resolveTerms σ (g .met) ts) (joined (g .value)))
 
-abbrev pub testing : ℕ → Result (List ℕ) → Judged (Result Test)
-testing p g = fine (record { value = testOf (atomFrom p (g .value)); met = g .met })
+abbrev pub testing : ℕ → Result (List ℕ) → Outcome (Result Test)
+testing p g = ok (record { value = testOf (atomFrom p (g .value)); met = g .met })
 
 -- the predicate's own word first (2, then 3), then its terms
-abbrev pub resolveAtom : Names → Met → T.Atom → Judged (Result Test)
+abbrev pub resolveAtom : Names → Met → T.Atom → Outcome (Result Test)
 resolveAtom σ m (equal a b) = andThen (resolveTerms σ m (a ∷ b ∷ [])) (testing equality)
 resolveAtom σ m (holds p ts) =
     cond (isAmong (keyOf p) (σ .predicates))
@@ -71,13 +71,13 @@ resolveAtom σ m (holds p ts) =
     (refused Arity))
     (refused Name)
 
-abbrev pub branching : Test → Reading → Result Reading → Judged (Result Reading)
-branching t h g = fine (record { value = branch t h (g .value); met = g .met })
+abbrev pub branching : Test → Reading → Result Reading → Outcome (Result Reading)
+branching t h g = ok (record { value = branch t h (g .value); met = g .met })
 
 -- the atom, the diagram for true, the diagram for false
-abbrev pub resolveDiagram : Names → Met → T.Diagram → Judged (Result Reading)
+abbrev pub resolveDiagram : Names → Met → T.Diagram → Outcome (Result Reading)
 resolveDiagram σ m (numeral n) =
-    cond (leb (valueOf n) highestValue) (fine (record { value = number (valueOf n); met = m })) (refused Range)
+    cond (leb (valueOf n) highestValue) (ok (record { value = number (valueOf n); met = m })) (refused Range)
 resolveDiagram σ m (conditional a d e) =
     andThen (resolveAtom σ m a) (λ t.
     andThen (resolveDiagram σ (t .met) d) (λ h.
@@ -89,11 +89,11 @@ opsOf (number v) = leafOp v ∷ []
 opsOf (branch t h f) = ask t ∷ (opsOf h ++ (opsOf f ++ (step ∷ [])))
 
 -- after all words, more variables of a kind than the limit are 8
-abbrev pub writing : Result Reading → Judged Written
+abbrev pub writing : Result Reading → Outcome Written
 writing g = written (g .met) (opsOf (g .value))
 
 -- what the words of a diagram come to
-unfoldable pub diagramReading : Names → T.Diagram → Met → Judged Written
+unfoldable pub diagramReading : Names → T.Diagram → Met → Outcome Written
 diagramReading σ d m = andThen (resolveDiagram σ m d) writing
 
 -- how many (if ..) are open together

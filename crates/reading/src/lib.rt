@@ -10,6 +10,7 @@ ghost use mathlib.Core.Path.{_≡_};
 ghost use mathlib.Core.List.{[], _∷_};
 ghost use Prim.Native.Nat.{_+_, _*_, _≤_, _<_, min};
 ghost use lib.ListN.{length, drop};
+ghost use Rattle.refusal.specs.Outcome.{ok};
 ghost use Rattle.label.specs.Limits.{constantCount, parameterCount, predicateCount, termEnd, mostPlaces};
 ghost use Rattle.label.specs.Labels.{unpacked};
 ghost use Rattle.label.specs.Terms.{variableTerm, minimumTerm};
@@ -21,7 +22,6 @@ ghost use Rattle.reading.specs.Operations.{opOf};
 ghost use Rattle.reading.specs.Reading.{asked, begun, termWord, numberWord, atomWord, more, constantNumber, parameterNumber, lastVariable};
 ghost use Rattle.reading.specs.Reading.{variableNumber, minimumNumber, met, arguments, variableMet, minimumMet, metAt, word, reading};
 ghost use Rattle.reading.specs.declared.Binding.the-variants.{Any, Only};
-ghost use Rattle.reading.specs.Reading.Judged.{fine};
 ghost use Rattle.words.specs.Keys.{bytesWithin, nameOf};
 ghost use Rattle.reading.specs.Occurrences.{minimumOf, variableOf, wordKeys, keysOf};
 ghost use Rattle.reading.specs.Numbering.{numberOf, rewardReading};
@@ -207,7 +207,7 @@ fn fill(l: Label, k: u64, t: u64) -> Label
 fn give(operations: &mut [u64], pass: Progress, t: u64) -> Stepped
     requires { ⌜ Room (now operations) pass ⌝ }
     requires { ⌜ t < termEnd ⌝ }
-    ensures { λ r. ⌜ Steps pass (termWord (passOf (now (operations .entry)) pass) (fine t)) r (now (operations .exit)) ⌝ }
+    ensures { λ r. ⌜ Steps pass (termWord (passOf (now (operations .entry)) pass) (ok t)) r (now (operations .exit)) ⌝ }
 {
     if pass.due == 0 {
         return Stepped::Refused(Refusal::Form);

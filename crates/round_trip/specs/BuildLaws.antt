@@ -33,7 +33,7 @@ use Rattle.build.specs.Build.{meaning, readDiagram, held, rewardDiagram}
 use Rattle.build.specs.Written.{diagramFor, EachAsked, EachValue}
 use Rattle.build.specs.Machine.{mostTests, builtClosed}
 use Rattle.build.specs.MachineLaws.{built-reward}
-use Rattle.build.specs.ReadingLaws.{fine-made, ordered-for, eval-for, labels-for}
+use Rattle.build.specs.ReadingLaws.{fine-made, ordered-for, eval-for, labels-for, meaning-most, fine-for}
 use Rattle.round_trip.specs.RoundTrip.{readingOf}
 
 -- ===== Steps that never meet 11 =====
@@ -75,20 +75,9 @@ bind-calm x y m f p q rs = go (m rs) (p rs)
 
 -- ===== Products and sums in their range =====
 
-meaning-most : (c : ℕ → Bool) (r : Reading) → EachValue r → meaning c r ≤ highestValue
-meaning-most c (number v) h = h
-meaning-most c (conditional t x y) h = go (asked c t) (meaning-most c x (h .0)) (meaning-most c y (h .1))
-  where
-    go : (b : Bool) → meaning c x ≤ highestValue → meaning c y ≤ highestValue → cond b (meaning c x) (meaning c y) ≤ highestValue
-    go true p q = p
-    go false p q = q
-
 module _ (ar : List ℕ) where
   fine-of : (d : Diagram) → Ordered d → EveryLabel (λ l. isLabel ar l ≡ true) d → ((c : ℕ → Bool) → eval c d ≤ highestValue) → Fine ar d
   fine-of d o l h = fine-made ar d l (most-eval highestValue 0 d o h)
-
-  read-fine : (r : Reading) → EachAsked (λ l. isLabel ar l ≡ true) r → EachValue r → Fine ar (diagramFor r)
-  read-fine r a v = fine-of (diagramFor r) (ordered-for r) (labels-for (λ l. isLabel ar l ≡ true) r a) (λ c. rw (eval-for c r) (meaning-most c r v))
 
   product-fine : (T : Diagram) (b : (ℕ → Bool) → Bool) (r : Reading) → Ordered T → EveryLabel (λ l. isLabel ar l ≡ true) T → ((c : ℕ → Bool) → eval c T ≡ cond (b c) 1 0)
       → EachAsked (λ l. isLabel ar l ≡ true) r → EachValue r → Fine ar (apply _*_ T (diagramFor r))
@@ -140,7 +129,7 @@ module _ (ar : List ℕ) where
       (bind-calm U whole (form U) _ (form-calm U)
       (bind-calm left whole (combine Product T (diagramFor x)) _ (combine-calm Product T (diagramFor x) (fine-calm Product ar T (diagramFor x) p))
       (bind-calm right whole (combine Product U (diagramFor y)) _ (combine-calm Product U (diagramFor y) (fine-calm Product ar U (diagramFor y) q))
-      (combine-calm Sum left right (fine-calm Sum ar left right (read-fine (conditional t x y) a v))))))
+      (combine-calm Sum left right (fine-calm Sum ar left right (fine-for ar (conditional t x y) a v))))))
 
   read-calm : (r : Reading) → EachAsked (λ l. isLabel ar l ≡ true) r → EachValue r → (rs : List Diagram) → NoValue (diagramFor r) (readDiagram r rs)
   unfolding readDiagram diagramFor

@@ -5,7 +5,7 @@ use mathlib.Core.List.{List, [], map}
 use Prim.Native.Nat.{ℕ, _≤_, _<_}
 use lib.ListN.{length, getD}
 use Rattle.refusal.specs.declared.Refusal.the-variants.{Value}
-use Rattle.refusal.specs.Outcome.{ok, refused}
+use Rattle.refusal.specs.Outcome.{Outcome, ok, refused}
 use Rattle.label.specs.Limits.{firstParameter}
 use Rattle.label.specs.Labels.{predicateOf}
 use Rattle.diagram.specs.Diagram.{Diagram, leaf, branch, EveryLabel}
@@ -17,8 +17,7 @@ use Rattle.words.specs.Keys.{keyOf}
 use Rattle.text.specs.Line.{GoodLine}
 use Rattle.events.specs.Events.{diagramEvents}
 use Rattle.reading.specs.declared.Binding.the-variants.{Any}
-use Rattle.reading.specs.Reading.{Names, Judged, Written}
-use Rattle.reading.specs.Reading.Judged.{fine}
+use Rattle.reading.specs.Reading.{Names, Written}
 use Rattle.reading.specs.Numbering.{rewardReading}
 use Rattle.reading.specs.Tree.{Reading, opsOf}
 use Rattle.reading.specs.Tree.Reading.{number, branch as conditional}
@@ -50,7 +49,7 @@ rewardNames ar n =
     record { constants = map keyOf (n .constants); predicates = map keyOf (n .predicates); arities = ar; parameters = []; binding = Any }
 
 -- the words of the form as a reward line's
-abbrev pub wordsRead : List ℕ → Tables → Diagram → Judged Written
+abbrev pub wordsRead : List ℕ → Tables → Diagram → Outcome Written
 wordsRead ar n d = rewardReading (rewardNames ar n) (diagramEvents (formTree ar n d))
 
 -- a diagram as it is written, each row as what it asks
@@ -63,7 +62,7 @@ pub record RoundTrip (ar : List ℕ) (n : Tables) (d : Diagram) : Type 0 where
   pub well-formed : GoodLine (rewardOf ar n d)
   -- no word of it is refused, nor their variables: no 2, 3, 6, 4 or 8
   pub words : Written
-  pub accepted : wordsRead ar n d ≡ fine words
+  pub accepted : wordsRead ar n d ≡ ok words
   pub operations : words .operations ≡ opsOf (readingOf d)
   -- where a reward is built from them and closed up, it is the very diagram, with the very listing
   pub same-diagram : (r : Diagram) → builtClosed ar (words .operations) ≡ ok r → r ≡ d

@@ -7,7 +7,7 @@ use native.Mathlib.Omega.{arith}
 use lib.ListN.{length}
 use borrow.Author.Tests.{le-leb}
 use Rattle.basics.specs.Tests.{Cmp, below, equal, above, cmp}
-use Rattle.refusal.specs.Outcome.{ok}
+use Rattle.refusal.specs.Outcome.{ok, andThen}
 use Rattle.label.specs.Limits.{firstParameter, firstVariable, variableCount, minimumCount}
 use Rattle.label.specs.Labels.{isLabel, predicateOf, unpacked, termsOf}
 use Rattle.diagram.specs.Diagram.{Diagram, leaf, branch, eval, relabel, Ordered, Reduced, EveryLabel}
@@ -23,8 +23,7 @@ use Rattle.state.specs.State.{meaning, atomOf}
 use Rattle.state.specs.Terms as A
 use Rattle.regression.specs.Parameters.{Allowed}
 use Rattle.events.specs.Events.{diagramEvents}
-use Rattle.reading.specs.Reading.{Written, isWithin, reading, andThen}
-use Rattle.reading.specs.Reading.Judged.{fine}
+use Rattle.reading.specs.Reading.{Written, isWithin, reading}
 use Rattle.reading.specs.Numbering.{rewardReading}
 use Rattle.reading.specs.Tree.{Reach, opsOf, depth, diagramReading, writing}
 use Rattle.reading.specs.TreeLaws.{reading-diagram}
@@ -112,7 +111,7 @@ module _ (ar : List ℕ) (n : Tables) (d : Diagram) (value : GoodValue ar d) (de
         le-leb (length (firstKeys (v .minimums))) minimumCount (omega (arith, minimums-few ar d, keys-length (v .minimums))),
       )
 
-  words-read : wordsRead ar n d ≡ fine read
+  words-read : wordsRead ar n d ≡ ok read
   unfolding diagramReading read rewardReading
   words-read =
       ap (reading (rewardNames ar n) (diagramEvents (formTree ar n d))) (form-variables ar d (value .listed) (value .is-closed) n)

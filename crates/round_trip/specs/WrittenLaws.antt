@@ -8,6 +8,7 @@ use lib.ListN.{length, getD, length-map}
 use lib.Dec.{eqb}
 use borrow.Author.Tests.{eqb-true, eqb-false, eq-eqb, le-leb}
 use Rattle.basics.specs.Tests.{Flag, isTrue, isFalse, flag, Cmp, below, equal, above, cmp}
+use Rattle.refusal.specs.Outcome.{ok}
 use Rattle.label.specs.Limits.{firstVariable, variableCount, firstMinimum, minimumCount, equality}
 use Rattle.label.specs.Terms.{isTerm}
 use Rattle.label.specs.Labels.{areArities, predicateOf, placeAt, unpacked, termsOf, isLabel, atomFrom, testOf}
@@ -29,7 +30,6 @@ use Rattle.forms.specs.Tree.Atom.{equal as equality-of, holds}
 use Rattle.answers.specs.DigitLaws.{digits-number, digits-value}
 use Rattle.reading.specs.declared.Binding.the-variants.{Any}
 use Rattle.reading.specs.Reading.{Names, Met, constantNumber, met, numberIn, variableNumber, minimumNumber}
-use Rattle.reading.specs.Reading.Judged.{fine}
 use Rattle.reading.specs.Tree.{Reach, having, resolveTerm, resolveTerms, resolveAtom, resolveDiagram}
 use Rattle.line_trees.specs.VariableLaws.{number-exact}
 use Rattle.diagram_form.specs.Form.{Tables, variableName, termTree, atomTree, formTree}
@@ -142,35 +142,35 @@ module _ (ar : List ℕ) (n : Tables) (v : Reach) (good : areArities ar ≡ true
   abbrev pub vs : Met
   vs = firstMet v
 
-  constant-number : (t : ℕ) → t < length (n .constants) → constantNumber (map keyOf (n .constants)) (keyOf (getD (n .constants) t [])) ≡ fine t
+  constant-number : (t : ℕ) → t < length (n .constants) → constantNumber (map keyOf (n .constants)) (keyOf (getD (n .constants) t [])) ≡ ok t
   unfolding constantNumber
   constant-number t h =
       rw (among-name (n .constants) (declared .constants-named) (declared .constants-differ) t h, place-name (n .constants) (declared .constants-named) (declared .constants-differ) t h)
 
-  term-resolved : (t : ℕ) → Known n v t → resolveTerm names vs (termTree n t) ≡ fine (record { value = t; met = vs })
+  term-resolved : (t : ℕ) → Known n v t → resolveTerm names vs (termTree n t) ≡ ok (record { value = t; met = vs })
   unfolding variableNumber minimumNumber
   term-resolved t k = go (kinds t)
     where
-      go : Kinds t → resolveTerm names vs (termTree n t) ≡ fine (record { value = t; met = vs })
+      go : Kinds t → resolveTerm names vs (termTree n t) ≡ ok (record { value = t; met = vs })
       go (constant h) = rw (constant-tree n t h) (ap (having vs) (constant-number t (k .constants h)))
       go (maximum h l) =
           let w = k .variables h l in
           let i = t - firstVariable in
           let b : i < v .variables = omega arith in
           rw (variable-tree n t h l, variable-met (v .variables) few i b)
-          (ap (λ (x : ℕ). fine (record { value = x; met = vs })) (variable-number (v .variables) few i b firstVariable t (omega arith)))
+          (ap (λ (x : ℕ). ok (record { value = x; met = vs })) (variable-number (v .variables) few i b firstVariable t (omega arith)))
       go (least h) =
           let w = k .minimums h in
           let i = t - firstMinimum in
           let b : i < v .minimums = omega arith in
           rw (minimum-tree n t h, variable-met (v .minimums) few-minimums i b)
-          (ap (λ (x : ℕ). fine (record { value = x; met = vs })) (variable-number (v .minimums) few-minimums i b firstMinimum t (omega arith)))
+          (ap (λ (x : ℕ). ok (record { value = x; met = vs })) (variable-number (v .minimums) few-minimums i b firstMinimum t (omega arith)))
 
-  terms-resolved : (ts : List ℕ) → S.All (Known n v) ts → resolveTerms names vs (map (termTree n) ts) ≡ fine (record { value = ts; met = vs })
+  terms-resolved : (ts : List ℕ) → S.All (Known n v) ts → resolveTerms names vs (map (termTree n) ts) ≡ ok (record { value = ts; met = vs })
   terms-resolved [] a = refl
   terms-resolved (t ∷ ts) a = rw (term-resolved t (a .0), terms-resolved ts (a .1))
 
-  atom-resolved : (l : ℕ) → Plain ar n v l → resolveAtom names vs (atomTree ar n l) ≡ fine (record { value = Is (record { packed = l }); met = vs })
+  atom-resolved : (l : ℕ) → Plain ar n v l → resolveAtom names vs (atomTree ar n l) ≡ ok (record { value = Is (record { packed = l }); met = vs })
   unfolding atomTree
   atom-resolved l p = go (flag (eqb (predicateOf l) equality))
     where
@@ -185,11 +185,11 @@ module _ (ar : List ℕ) (n : Tables) (v : Reach) (good : areArities ar ≡ true
 
       go : Flag (eqb (predicateOf l) equality)
           → resolveAtom names vs (cond (eqb (predicateOf l) equality) (equality-of (termTree n (placeAt l 0)) (termTree n (placeAt l 1))) (holds q (map (termTree n) ts)))
-          ≡ fine (record { value = Is (record { packed = l }); met = vs })
+          ≡ ok (record { value = Is (record { packed = l }); met = vs })
       go (isTrue h) =
           let two = equality-terms ar l good (eqb-true _ _ h) in
           rw (h, terms-resolved (placeAt l 0 ∷ placeAt l 1 ∷ []) (subst (S.All (Known n v)) two (p .terms)))
-          (ap (λ (x : Test). fine (record { value = x; met = vs }))
+          (ap (λ (x : Test). ok (record { value = x; met = vs }))
           (ap (λ (us : List ℕ). testOf (atomFrom equality us)) (sym two) ∙ asks equality (sym (eqb-true _ _ h))))
       go (isFalse h) =
           let b = predicate-place l p h in
@@ -206,7 +206,7 @@ module _ (ar : List ℕ) (n : Tables) (v : Reach) (good : areArities ar ≡ true
             eq-eqb _ _ count,
             terms-resolved ts (p .terms),
           )
-          (ap (λ (x : Test). fine (record { value = x; met = vs })) (asks (predicateOf l) refl))
+          (ap (λ (x : Test). ok (record { value = x; met = vs })) (asks (predicateOf l) refl))
         where
           above-zero : Cmp 0 (predicateOf l) → (predicateOf l ≡ equality → ⊥) → predicateOf l - 1 + 1 ≡ predicateOf l
           above-zero (below x) ne = omega arith
@@ -214,7 +214,7 @@ module _ (ar : List ℕ) (n : Tables) (v : Reach) (good : areArities ar ≡ true
           above-zero (above x) ne = absurd (omega arith)
 
   pub form-resolved : (d : Diagram) → EveryLabel (Plain ar n v) d → Fine ar d
-      → resolveDiagram names vs (formTree ar n d) ≡ fine (record { value = readingOf d; met = vs })
+      → resolveDiagram names vs (formTree ar n d) ≡ ok (record { value = readingOf d; met = vs })
   unfolding formTree readingOf
   form-resolved (leaf x) p h = rw (digits-value x (omega arith), le-leb x highestValue h)
   form-resolved (branch l t f) p h = rw (atom-resolved l (p .0), form-resolved t (p .1) (h .1), form-resolved f (p .2) (h .2))
