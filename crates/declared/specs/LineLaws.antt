@@ -3,7 +3,7 @@ use mathlib.Core.Path.{_≡_, refl, sym, ap, subst, _∙_}
 use mathlib.Core.Bool.{_||_, cond}
 use mathlib.Core.List.{List, [], _∷_, _++_}
 use mathlib.Core.Option.{some}
-use Prim.Native.Nat.{ℕ, suc, _+_, _≤_}
+use Prim.Native.Nat.{ℕ, suc, _≤_}
 use native.Mathlib.Omega.{arith}
 use lib.ListN.{length, getD, set, drop}
 use lib.Seq.{getD-set-other}
@@ -11,7 +11,7 @@ use lib.Dec.{eqb, ltb, leb}
 use Rattle.basics.specs.Tests.{Flag, isTrue, isFalse, flag, neither}
 use Rattle.refusal.specs.declared.Refusal.the-variants.{Name, Range, Truth, Space}
 use Rattle.refusal.specs.Outcome.{Outcome, ok, andThen, Accepted}
-use Rattle.refusal.specs.OutcomeLaws.{accepted-ok, accepted-then, accepted-next, accepted-cond}
+use Rattle.refusal.specs.OutcomeLaws.{accepted-ok, accepted-refused, accepted-then, accepted-next, accepted-cond}
 use Rattle.label.specs.Limits.{constantCount, predicateCount, parameterCount, mostPlaces}
 use Rattle.words.specs.Keys.{keyOf}
 use Rattle.words.specs.declared.Key.{Key}
@@ -40,7 +40,6 @@ use Rattle.mdp.specs.Runs.{Held, begin}
 use Rattle.reading.specs.declared.Binding.{Binding}
 use Rattle.reading.specs.declared.Binding.the-variants.{Any, None, Only}
 use Rattle.reading.specs.Reading.{arguments, reading}
-use Rattle.reading.specs.Reading.Judged.{fine}
 use Rattle.reading.specs.Numbering.{metFirst, rewardReading}
 use Rattle.reading.specs.Head.{headNumber, headArguments}
 use Rattle.reading.specs.Tree.{NamesFit}
@@ -50,12 +49,11 @@ use Rattle.session.specs.declared.Rule.the-variants as R
 use Rattle.session.specs.Place.{ruleOf}
 use Rattle.session.specs.Session.{Names, Session}
 use Rattle.session.specs.Declaring.{isDeclared, constantLine, Vocabulary, predicateLine, repeated, actionLine}
-use Rattle.session.specs.Modelling.{mostModelRows, namesFor, rowsWith, withReward, rewardRead, rewardLine, addVariant, noTruths, withVariant, weightRead, variantLine}
-use Rattle.session.specs.Modelling.{withTruthAt, lastTruths, lastVariant, truthsNow, isSome, withTruth, truthRead, becomesLine, weighed}
-use Rattle.session.specs.Running.{withHeld, startLine, backupLine, cutTo, cutLine, reduceLine}
+use Rattle.session.specs.ModelLines.{mostModelRows, namesFor, rowsWith, withReward, rewardRead, rewardLine, addVariant, noTruths, withVariant, weightRead, variantLine}
+use Rattle.session.specs.ModelLines.{withTruthAt, lastTruths, lastVariant, truthsNow, isSome, withTruth, truthRead, becomesLine, weighed}
+use Rattle.session.specs.Running.{withHeld, startLine, backupLine, CutDone, cutTo, cutLine, reduceLine}
 use Rattle.session.specs.Replies.{Reply, allowed, withNames, withVocabulary, withTotal, withDiscount, withAction, wordsOf, reply}
 use Rattle.session.specs.Good.{GoodTables, GoodSession}
-use Rattle.model_laws.specs.OutcomeLaws.{accepted-read}
 use Rattle.model_laws.specs.ActionLaws.{length-more, every-more, withTruths}
 use Rattle.model_laws.specs.HeadLaws.{head-headed}
 use Rattle.session_laws.specs.PlaceLaws.{in-run}
@@ -171,7 +169,7 @@ module _ (σ : Session) (h : DeclaredSession σ) where
     unfolding rewardRead rewardReading
     reward-read r d shallow =
         let vs = metFirst (diagramEvents d) in
-        accepted-read (reading (namesFor (σ .names) (σ .model .arities) Any []) (diagramEvents d) vs) _ (λ w e.
+        accepted-next (reading (namesFor (σ .names) (σ .model .arities) Any []) (diagramEvents d) vs) _ (λ w e.
         accepted-next (builtClosed (σ .model .arities) (w .operations)) _ (λ x m.
         accepted-cond (ltb mostModelRows (rowsWith r x)) Space _ (λ few.
         accepted-ok (reward-declares (namesFor (σ .names) (σ .model .arities) Any []) (names-fit Any [] (omega arith)) d shallow vs w e x m))))
@@ -180,7 +178,7 @@ module _ (σ : Session) (h : DeclaredSession σ) where
     unfolding weightRead
     weight-read r k d shallow =
         accepted-cond (isAmong k (σ .names .variants)) Name _ (λ new.
-        accepted-read (reading (namesFor (σ .names) (σ .model .arities) None (σ .names .parameters)) (diagramEvents d) (arguments [])) _ (λ w e.
+        accepted-next (reading (namesFor (σ .names) (σ .model .arities) None (σ .names .parameters)) (diagramEvents d) (arguments [])) _ (λ w e.
         accepted-next (built (w .operations)) _ (λ x m.
         accepted-cond (leb mostVariants (length (σ .names .variants)) || ltb mostModelRows (rowsWith r x)) Space _ (λ few.
         accepted-ok
@@ -191,15 +189,15 @@ module _ (σ : Session) (h : DeclaredSession σ) where
     unfolding truthRead
     truth-read truths r n vs d shallow =
         let ar = σ .model .arities in
-        accepted-read (headNumber (σ .names .predicates) (wordsEvents K.Becomes (n, vs, d))) _ (λ q i.
+        accepted-next (headNumber (σ .names .predicates) (wordsEvents K.Becomes (n, vs, d))) _ (λ q i.
         accepted-cond (isSome (truths q)) Name _ (λ new.
-        accepted-read (headArguments (getD ar q 0) (wordsEvents K.Becomes (n, vs, d))) _ (λ a j.
+        accepted-next (headArguments (getD ar q 0) (wordsEvents K.Becomes (n, vs, d))) _ (λ a j.
         let y = head-headed (getD ar q 0) (keyOf n) vs (diagramEvents d) a j in
-        accepted-read (reading (namesFor (σ .names) ar Only (σ .names .parameters)) (a .rest) (arguments (a .variables))) _ (λ w e.
+        accepted-next (reading (namesFor (σ .names) ar Only (σ .names .parameters)) (a .rest) (arguments (a .variables))) _ (λ w e.
         accepted-next (built (w .operations)) _ (λ x m.
         accepted-cond (leafAbove 1 x) Truth _ (λ bits.
         accepted-cond (ltb mostModelRows (rowsWith r x)) Space _ (λ few.
-        let f = subst (λ (es : List Event). reading (namesFor (σ .names) ar Only (σ .names .parameters)) es (arguments (a .variables)) ≡ fine w) (y .rest) e in
+        let f = subst (λ (es : List Event). reading (namesFor (σ .names) ar Only (σ .names .parameters)) es (arguments (a .variables)) ≡ ok w) (y .rest) e in
         accepted-ok
         (text-declares (namesFor (σ .names) ar Only (σ .names .parameters)) (names-fit Only (σ .names .parameters) (good .parameters)) d shallow (arguments (a .variables)) w f x m))))))))
 
@@ -294,16 +292,16 @@ module _ (σ : Session) (h : DeclaredSession σ) where
         (backup-declared (σ .model) (length (σ .names .constants)) (length (σ .names .predicates)) (b .good) (σ .held .diagram) (b .value) (h .in-value)
         (h .in-reward) (h .in-actions) (σ .held .steps)) e
 
-    cut-line : DeclaredSession (withHeld σ (σ .part) (cutLine (σ .model .arities) (σ .held)))
+    cut-line : (x : CutDone) → cutLine (σ .model .arities) (σ .held) ≡ ok x → DeclaredSession (withHeld σ (σ .part) (x .held))
     unfolding cutLine
-    cut-line = go (diagramAnswer (σ .model .arities) (σ .held .diagram))
+    cut-line x p = held-declared (x .held) (go (diagramAnswer (σ .model .arities) (σ .held .diagram)) .given x p)
       where
-        go : (x : Cut) → DeclaredSession (withHeld σ (σ .part) (cutTo (σ .model .arities) (σ .held) x))
+        go : (c : Cut) → Accepted (λ (y : CutDone). Named (y .held .diagram)) (cutTo (σ .model .arities) (σ .held) c)
         go (C.Done k e n) =
             let b = good .begun run in
-            held-declared (cutTo (σ .model .arities) (σ .held) (C.Done k e n))
+            accepted-ok
             (cut-declared (σ .model) (length (σ .names .constants)) (length (σ .names .predicates)) (b .good) (σ .held .diagram) (b .value) (h .in-value) k (isTrueEdge e))
-        go (C.Refused r) = h
+        go (C.Refused r) = accepted-refused
 
     reduce-line : (x : Held) → reduceLine (σ .model .arities) (σ .held) ≡ ok x → DeclaredSession (withHeld σ (σ .part) x)
     unfolding reduceLine
@@ -363,7 +361,7 @@ module _ (σ : Session) (good : GoodSession σ) (h : DeclaredSession σ) where
     forTrue = λ l e t. h;
     forValue = λ v e t. h;
     forBackup = λ x e t. backup-line σ h good (run K.Backup refl t) x e;
-    forCut = λ row e n q t. cut-line σ h good (run K.Cut refl t);
+    forCut = λ x e t. cut-line σ h good (run K.Cut refl t) x e;
     forReduce = λ x e t. reduce-line σ h good (run K.Reduce refl t) x e;
     forShow = λ t. h;
     forText = λ n e t. h;

@@ -8,7 +8,7 @@ use lib.ListN.{length, getD}
 use lib.Dec.{eqb, ltb, leb}
 use borrow.Author.Tests.{ltb-true, eqb-true, ne-eqb}
 use Rattle.refusal.specs.declared.Refusal.the-variants.{Name, Arity, Range, Unbound}
-use Rattle.refusal.specs.Outcome.{ok}
+use Rattle.refusal.specs.Outcome.{ok, andThen}
 use Rattle.label.specs.Limits.{constantCount, firstParameter, parameterCount, firstVariable, firstMinimum, termBase, equality, equalityArity}
 use Rattle.label.specs.Labels.{areArities, atomFrom, packed, labelOf, equates, testOf}
 use Rattle.label.specs.ArityLaws.{arity-two, atom-terms, from-places}
@@ -32,12 +32,12 @@ use Rattle.forms.specs.Tree.Diagram.{number as numeral, branch as conditional}
 use Rattle.events.specs.Events.{diagramEvents}
 use Rattle.reading.specs.declared.Binding.{Binding}
 use Rattle.reading.specs.declared.Binding.the-variants.{Any, None, Only}
-use Rattle.reading.specs.Reading.{Names, Judged, Met, Written, andThen, constantNumber, parameterNumber, met, numberIn, variableNumber, minimumNumber, variableMet, minimumMet, reading}
-use Rattle.reading.specs.Reading.Judged.{fine, refused}
-use Rattle.reading.specs.JudgedLaws.{apart, fine-one, chosen, passed, chained}
-use Rattle.reading.specs.Tree.{Reading, Result, having, resolveTerm, resolveTerms, testing, resolveAtom, branching, resolveDiagram, GoodReading, NamesFit}
+use Rattle.reading.specs.Reading.{Names, Met, Written, constantNumber, parameterNumber, met, numberIn, variableNumber, minimumNumber, variableMet, minimumMet, reading}
+use Rattle.reading.specs.OutcomeLaws.{apart, ok-one, chosen, passed, chained}
+use Rattle.reading.specs.Tree.{Reading, Result, resolveTerm, resolveTerms, testing, resolveAtom, branching, resolveDiagram, GoodReading, NamesFit}
 use Rattle.reading.specs.Tree.Reading.{number, branch}
 use Rattle.reading.specs.TreeLaws.{Resolving, terms-resolved}
+use Rattle.reading.specs.GoodLaws.{had}
 use Rattle.build.specs.Written.{diagramFor, EachAsked}
 use Rattle.build.specs.Machine.{mostTests, built, builtClosed}
 use Rattle.build.specs.MachineLaws.{built-text, built-reward}
@@ -50,10 +50,6 @@ use Rattle.declared.specs.BackupLaws.{proper-declared}
 
 -- ===== Terms =====
 
-having-value : {A : Type 0} (vs : Met) (j : Judged A) (g : Result A) → having vs j ≡ fine g → j ≡ fine (g .value)
-having-value {A} vs (fine x) g e = ap (λ (y : Result A). fine (y .value)) (fine-one e)
-having-value vs (refused r) g e = absurd (apart e)
-
 -- a term that fits its place in a label, a constant one of the first c
 record Fitting (c t : ℕ) : Type 0 where
   small : t < termBase
@@ -65,27 +61,27 @@ module _ (c : ℕ) where
   unfolding numberIn
   fitting-number f h l vs k = record { small = omega arith; constants = λ i. absurd (omega arith) }
 
-  fitting-variable : (b : Binding) (vs : List Key) (k : Key) (t : ℕ) → variableNumber b vs k ≡ fine t → Fitting c t
+  fitting-variable : (b : Binding) (vs : List Key) (k : Key) (t : ℕ) → variableNumber b vs k ≡ ok t → Fitting c t
   unfolding variableNumber
-  fitting-variable Any vs k t e = subst (Fitting c) (fine-one e) (fitting-number firstVariable (omega arith) (omega arith) vs k)
+  fitting-variable Any vs k t e = subst (Fitting c) (ok-one e) (fitting-number firstVariable (omega arith) (omega arith) vs k)
   fitting-variable None vs k t e = absurd (apart e)
   fitting-variable Only vs k t e =
       subst (Fitting c) (passed (isAmong k vs) (numberIn firstVariable vs k) Unbound t e .1) (fitting-number firstVariable (omega arith) (omega arith) vs k)
 
-  fitting-minimum : (b : Binding) (vs : List Key) (k : Key) (t : ℕ) → minimumNumber b vs k ≡ fine t → Fitting c t
+  fitting-minimum : (b : Binding) (vs : List Key) (k : Key) (t : ℕ) → minimumNumber b vs k ≡ ok t → Fitting c t
   unfolding minimumNumber
-  fitting-minimum Any vs k t e = subst (Fitting c) (fine-one e) (fitting-number firstMinimum (omega arith) (omega arith) vs k)
+  fitting-minimum Any vs k t e = subst (Fitting c) (ok-one e) (fitting-number firstMinimum (omega arith) (omega arith) vs k)
   fitting-minimum None vs k t e = absurd (apart e)
   fitting-minimum Only vs k t e = absurd (apart e)
 
-fitting-constant : (ks : List Key) (k : Key) (t : ℕ) → length ks ≤ constantCount → constantNumber ks k ≡ fine t → Fitting (length ks) t
+fitting-constant : (ks : List Key) (k : Key) (t : ℕ) → length ks ≤ constantCount → constantNumber ks k ≡ ok t → Fitting (length ks) t
 unfolding constantNumber isAmong
 fitting-constant ks k t few e =
     let x = passed (isAmong k ks) (placeOf k ks) Name t e in
     let h = ltb-true (placeOf k ks) (length ks) (x .0) in
     subst (Fitting (length ks)) (x .1) (record { small = omega arith; constants = λ i. h })
 
-fitting-parameter : (c : ℕ) (ks : List Key) (k : Key) (t : ℕ) → length ks ≤ parameterCount → parameterNumber ks k ≡ fine t → Fitting c t
+fitting-parameter : (c : ℕ) (ks : List Key) (k : Key) (t : ℕ) → length ks ≤ parameterCount → parameterNumber ks k ≡ ok t → Fitting c t
 unfolding parameterNumber isAmong
 fitting-parameter c ks k t few e =
     let x = passed (isAmong k ks) (firstParameter + placeOf k ks) Unbound t e in
@@ -164,34 +160,34 @@ module _ (σ : Names) (fit : NamesFit σ) where
   resolving : Resolving σ (Fitting (length (σ .constants))) (λ us. Unit {0})
   resolving = record { each = each }
     where
-      each : (us : Met) (t : T.Term) (g : Result ℕ) → Unit {0} → resolveTerm σ us t ≡ fine g → Fitting (length (σ .constants)) (g .value) × Unit {0}
+      each : (us : Met) (t : T.Term) (g : Result ℕ) → Unit {0} → resolveTerm σ us t ≡ ok g → Fitting (length (σ .constants)) (g .value) × Unit {0}
       each us (term plain n) g q e =
-          (fitting-constant (σ .constants) (keyOf n) (g .value) (fit .constants-few) (having-value us (constantNumber (σ .constants) (keyOf n)) g e), tt)
+          (fitting-constant (σ .constants) (keyOf n) (g .value) (fit .constants-few) (had us (constantNumber (σ .constants) (keyOf n)) g e .0), tt)
       each us (term variable n) g q e =
           let vs = met (σ .binding) (us .variables) (keyOf n) in (
             fitting-variable (length (σ .constants)) (σ .binding) vs (keyOf n) (g .value)
-                (having-value (variableMet (σ .binding) us (keyOf n)) (variableNumber (σ .binding) vs (keyOf n)) g e),
+                (had (variableMet (σ .binding) us (keyOf n)) (variableNumber (σ .binding) vs (keyOf n)) g e .0),
             tt,
           )
       each us (term minimum n) g q e =
           let vs = met (σ .binding) (us .minimums) (keyOf n) in (
             fitting-minimum (length (σ .constants)) (σ .binding) vs (keyOf n) (g .value)
-                (having-value (minimumMet (σ .binding) us (keyOf n)) (minimumNumber (σ .binding) vs (keyOf n)) g e),
+                (had (minimumMet (σ .binding) us (keyOf n)) (minimumNumber (σ .binding) vs (keyOf n)) g e .0),
             tt,
           )
       each us (term parameter n) g q e =
-          (fitting-parameter (length (σ .constants)) (σ .parameters) (keyOf n) (g .value) (fit .parameters-few) (having-value us (parameterNumber (σ .parameters) (keyOf n)) g e), tt)
+          (fitting-parameter (length (σ .constants)) (σ .parameters) (keyOf n) (g .value) (fit .parameters-few) (had us (parameterNumber (σ .parameters) (keyOf n)) g e .0), tt)
 
   asked-by : (q : ℕ) (ts : List T.Term) (vs : Met) (g : Result Test)
       → ((us : List ℕ) → length us ≡ length ts → T.All (Fitting (length (σ .constants))) us → Asks (σ .arities) (length (σ .constants)) (length (σ .predicates)) (testOf (atomFrom q us)))
-      → andThen (resolveTerms σ vs ts) (testing q) ≡ fine g → Asks (σ .arities) (length (σ .constants)) (length (σ .predicates)) (g .value)
+      → andThen (resolveTerms σ vs ts) (testing q) ≡ ok g → Asks (σ .arities) (length (σ .constants)) (length (σ .predicates)) (g .value)
   asked-by q ts vs g f e =
       let x = chained (resolveTerms σ vs ts) (testing q) g e in
       let r = terms-resolved σ (Fitting (length (σ .constants))) (λ us. Unit {0}) resolving ts vs (x .first) tt (x .answers) in
-      let z : _≡_ {A = Result Test} (record { value = testOf (atomFrom q (x .first .value)); met = x .first .met }) g = fine-one (x .then) in
+      let z : _≡_ {A = Result Test} (record { value = testOf (atomFrom q (x .first .value)); met = x .first .met }) g = ok-one (x .then) in
       subst (λ (y : Result Test). Asks (σ .arities) (length (σ .constants)) (length (σ .predicates)) (y .value)) z (f (x .first .value) (r .count) (r .all))
 
-  atom-asks : (a : T.Atom) (vs : Met) (g : Result Test) → resolveAtom σ vs a ≡ fine g → Asks (σ .arities) (length (σ .constants)) (length (σ .predicates)) (g .value)
+  atom-asks : (a : T.Atom) (vs : Met) (g : Result Test) → resolveAtom σ vs a ≡ ok g → Asks (σ .arities) (length (σ .constants)) (length (σ .predicates)) (g .value)
   atom-asks (equal a b) vs g e = asked-by equality (a ∷ b ∷ []) vs g (λ us. two us) e
     where
       two : (us : List ℕ) → length us ≡ equalityArity → T.All (Fitting (length (σ .constants))) us
@@ -208,7 +204,7 @@ module _ (σ : Names) (fit : NamesFit σ) where
       let l : length ts ≡ getD (σ .arities) q 0 = eqb-true (length ts) (getD (σ .arities) q 0) (y .0) in
       asked-by q ts vs g (λ us m a. other-asks (σ .arities) (fit .arity-list) (length (σ .constants)) (length (σ .predicates)) q us (omega arith) (omega arith) (m ∙ l) a) (y .1)
 
-  diagram-asks : (d : T.Diagram) (vs : Met) (g : Result Reading) → resolveDiagram σ vs d ≡ fine g
+  diagram-asks : (d : T.Diagram) (vs : Met) (g : Result Reading) → resolveDiagram σ vs d ≡ ok g
       → EachAsked (DeclaredLabel (σ .arities) (length (σ .constants)) (length (σ .predicates))) (g .value)
   diagram-asks (numeral n) vs g e =
       subst (λ (r : Result Reading). EachAsked (DeclaredLabel (σ .arities) (length (σ .constants)) (length (σ .predicates))) (r .value))
@@ -217,14 +213,14 @@ module _ (σ : Names) (fit : NamesFit σ) where
       let x = chained (resolveAtom σ vs a) _ g z in
       let y = chained (resolveDiagram σ (x .first .met) d) _ g (x .then) in
       let v = chained (resolveDiagram σ (y .first .met) e) (branching (x .first .value) (y .first .value)) g (y .then) in
-      let u : _≡_ {A = Result Reading} (record { value = branch (x .first .value) (y .first .value) (v .first .value); met = v .first .met }) g = fine-one (v .then) in
+      let u : _≡_ {A = Result Reading} (record { value = branch (x .first .value) (y .first .value) (v .first .value); met = v .first .met }) g = ok-one (v .then) in
       subst (λ (r : Result Reading). EachAsked (DeclaredLabel (σ .arities) (length (σ .constants)) (length (σ .predicates))) (r .value)) u
       (asked-branch (σ .arities) (length (σ .constants)) (length (σ .predicates)) (x .first .value) (y .first .value) (v .first .value)
       (atom-asks a vs (x .first) (x .answers)) (diagram-asks d (x .first .met) (y .first) (y .answers)) (diagram-asks e (y .first .met) (v .first) (v .answers)))
 
   -- ===== What is built =====
 
-  module _ (d : T.Diagram) (shallow : T.brackets d ≤ mostTests) (vs : Met) (w : Written) (e : reading σ (diagramEvents d) vs ≡ fine w) (x : Diagram) where
+  module _ (d : T.Diagram) (shallow : T.brackets d ≤ mostTests) (vs : Met) (w : Written) (e : reading σ (diagramEvents d) vs ≡ ok w) (x : Diagram) where
     tree : Resolved σ vs d w
     tree = resolved σ fit d vs w e
 

@@ -8,7 +8,7 @@ use Rattle.diagram.specs.Listing.{listing}
 use Rattle.text.specs.Line.{Line}
 use Rattle.session.specs.declared.Part.the-variants.{Model}
 use Rattle.session.specs.Session.{Session}
-use Rattle.session.specs.Modelling.{mostModelRows, rowsWith, withReward}
+use Rattle.session.specs.ModelLines.{mostModelRows, rowsWith, withReward}
 use Rattle.session.specs.Running.{tablesIn}
 use Rattle.session.specs.Replies.{silent, reply}
 use Rattle.session.specs.Texts.{lineFeed, linesOf}

@@ -21,15 +21,14 @@ use Rattle.events.specs.Events.{diagramEvents}
 use Rattle.events.specs.LineEvents.{line-events}
 use Rattle.answers.specs.declared.Answer.the-variants as A
 use Rattle.reading.specs.declared.Binding.the-variants.{Any}
-use Rattle.reading.specs.Reading.{Names as ReadingNames, Judged, Written}
-use Rattle.reading.specs.Reading.Judged.{fine}
+use Rattle.reading.specs.Reading.{Names as ReadingNames, Written}
 use Rattle.reading.specs.Numbering.{rewardReading}
 use Rattle.build.specs.Machine.{builtClosed}
 use Rattle.session.specs.declared.Part.{Part}
 use Rattle.session.specs.declared.Part.the-variants.{Model, Run}
 use Rattle.session.specs.Place.{ruleOf}
 use Rattle.session.specs.Session.{Names, Session, refuseIf}
-use Rattle.session.specs.Modelling.{mostModelRows, outcomeOf, namesFor, rowsWith, withReward, rewardRead, rewardLine}
+use Rattle.session.specs.ModelLines.{mostModelRows, namesFor, rowsWith, withReward, rewardRead, rewardLine}
 use Rattle.session.specs.Running.{tablesIn}
 use Rattle.session.specs.Replies.{Reply, refusal, silent, allowed, unless, done, placed, quietly, replyTo, wordsOf, reply}
 use Rattle.session.specs.Good.{GoodSession}
@@ -76,11 +75,11 @@ abbrev roomy : ℕ → Diagram → Outcome Diagram
 roomy r d = refuseIf (ltb mostModelRows (rowsWith r d)) Space (ok d)
 
 -- words that are read and built
-reward-from : (ar : List ℕ) (r : ℕ) (j : Judged Written) (w : Written) (d : Diagram) → j ≡ fine w → builtClosed ar (w .operations) ≡ ok d
-    → andThen (outcomeOf j) (λ v. andThen (builtClosed ar (v .operations)) (roomy r)) ≡ roomy r d
+reward-from : (ar : List ℕ) (r : ℕ) (j : Outcome Written) (w : Written) (d : Diagram) → j ≡ ok w → builtClosed ar (w .operations) ≡ ok d
+    → andThen j (λ v. andThen (builtClosed ar (v .operations)) (roomy r)) ≡ roomy r d
 reward-from ar r j w d e b = rw (e, b)
 
-reward-read : (n : Names) (ar : List ℕ) (r : ℕ) (es : List Event) (w : Written) (d : Diagram) → rewardReading (namesFor n ar Any []) es ≡ fine w
+reward-read : (n : Names) (ar : List ℕ) (r : ℕ) (es : List Event) (w : Written) (d : Diagram) → rewardReading (namesFor n ar Any []) es ≡ ok w
     → builtClosed ar (w .operations) ≡ ok d → rewardRead n ar r es ≡ roomy r d
 unfolding rewardRead
 reward-read n ar r es w d = reward-from ar r (rewardReading (namesFor n ar Any []) es) w d
@@ -109,7 +108,7 @@ module _ (σ : Session) (good : GoodSession σ) (named : Named σ) (run : σ .pa
         let p = can .predicates ∙ named .keys .predicates in
         λ i. record { constants = c i; predicates = p i; arities = can .arities i; parameters = []; binding = Any }
 
-    words-read : rewardReading (namesFor (τ .names) (τ .model .arities) Any []) (diagramEvents tree) ≡ fine (again .trip .words)
+    words-read : rewardReading (namesFor (τ .names) (τ .model .arities) Any []) (diagramEvents tree) ≡ ok (again .trip .words)
     unfolding tree
     words-read = ap (λ (ν : ReadingNames). rewardReading ν (diagramEvents tree)) names-same ∙ again .trip .accepted
 

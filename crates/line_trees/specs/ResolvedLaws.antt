@@ -11,13 +11,11 @@ use borrow.Author.Tests.{ltb-true, leb-true}
 use Rattle.basics.specs.Tests.{and-left, and-right}
 use Rattle.refusal.specs.declared.Refusal.{Refusal}
 use Rattle.refusal.specs.declared.Refusal.the-variants.{Name, Arity, Range, Unbound}
-use Rattle.refusal.specs.Outcome.{Outcome, ok, andThen}
-use Rattle.refusal.specs.Outcome.Outcome.{refused as refusedWith}
+use Rattle.refusal.specs.Outcome.{Outcome, ok, refused, andThen}
 use Rattle.label.specs.Limits.{equality, firstVariable, variableCount, firstMinimum, minimumCount}
 use Rattle.label.specs.Labels.{atomFrom, testOf}
 use Rattle.label.specs.declared.Test.{Test}
 use Rattle.diagram.specs.Sizes.{highestValue}
-use Rattle.diagram.specs.Diagram.{Diagram}
 use Rattle.words.specs.Bytes.{valueOf}
 use Rattle.words.specs.Keys.{keyOf}
 use Rattle.words.specs.declared.Key.{Key}
@@ -29,43 +27,35 @@ use Rattle.forms.specs.Tree.Atom.{equal, holds}
 use Rattle.forms.specs.Tree.Diagram.{number as numeral, branch as conditional}
 use Rattle.reading.specs.declared.Binding.{Binding}
 use Rattle.reading.specs.declared.Binding.the-variants.{Any, None, Only}
-use Rattle.reading.specs.Reading.{Names, Judged, constantNumber, parameterNumber, met, Met, arguments, numberIn, variableNumber, minimumNumber, variableMet, minimumMet, isWithin}
-use Rattle.reading.specs.Reading.{andThen as judgedThen}
-use Rattle.reading.specs.Reading.Judged.{fine, refused}
+use Rattle.reading.specs.Reading.{Names, constantNumber, parameterNumber, met, Met, arguments, numberIn, variableNumber, minimumNumber, variableMet, minimumMet, isWithin}
+use Rattle.reading.specs.OutcomeLaws.{Match}
 use Rattle.reading.specs.Tree.{Reading, Result, having, resolveTerm, joined, resolveTerms, testing, resolveAtom, branching, resolveDiagram}
-use Rattle.reading.specs.Tree.Reading.{number, branch}
+use Rattle.reading.specs.Tree.Reading.{branch}
 use Rattle.session.specs.Session.{Session, refuseIf}
 use Rattle.session.specs.Facts.{predicateOf}
-use Rattle.session.specs.Modelling.{namesFor}
+use Rattle.session.specs.ModelLines.{namesFor}
 use Rattle.line_trees.specs.TreeReading.{atomTerms, diagramTerms, withOne, variablesAfter, termNumber, termNumbers, atomTest, diagramWords}
 use Rattle.line_trees.specs.VariableLaws.{extends, number-exact, kept, keptMet, met-kept, within-kept, met-numbered}
 
 -- ===== Two answers that agree =====
 
--- both are answers, and P holds of them, or both are the same refusal
-abbrev pub Match : {A B : Type 0} → (A → B → Type 0) → Judged A → Outcome B → Type 0
-Match P (fine a) (ok b) = P a b
-Match P (fine a) (refusedWith r) = ⊥
-Match P (refused r) (ok b) = ⊥
-Match P (refused r) (refusedWith s) = r ≡ s
-
-match-then : {A B C D : Type 0} (P : A → B → Type 0) (Q : C → D → Type 0) (j : Judged A) (o : Outcome B) (f : A → Judged C) (g : B → Outcome D)
-    → Match P j o → ((a : A) (b : B) → P a b → Match Q (f a) (g b)) → Match Q (judgedThen j f) (andThen o g)
-match-then P Q (fine a) (ok b) f g m n = n a b m
-match-then P Q (fine a) (refusedWith r) f g m n = absurd m
+match-then : {A B C D : Type 0} (P : A → B → Type 0) (Q : C → D → Type 0) (o : Outcome A) (p : Outcome B) (f : A → Outcome C) (g : B → Outcome D)
+    → Match P o p → ((a : A) (b : B) → P a b → Match Q (f a) (g b)) → Match Q (andThen o f) (andThen p g)
+match-then P Q (ok a) (ok b) f g m n = n a b m
+match-then P Q (ok a) (refused r) f g m n = absurd m
 match-then P Q (refused r) (ok b) f g m n = absurd m
-match-then P Q (refused r) (refusedWith s) f g m n = m
+match-then P Q (refused r) (refused s) f g m n = m
 
-match-mono : {A B : Type 0} (P Q : A → B → Type 0) (j : Judged A) (o : Outcome B) → ((a : A) (b : B) → P a b → Q a b) → Match P j o → Match Q j o
-match-mono P Q (fine a) (ok b) f m = f a b m
-match-mono P Q (fine a) (refusedWith r) f m = absurd m
+match-mono : {A B : Type 0} (P Q : A → B → Type 0) (o : Outcome A) (p : Outcome B) → ((a : A) (b : B) → P a b → Q a b) → Match P o p → Match Q o p
+match-mono P Q (ok a) (ok b) f m = f a b m
+match-mono P Q (ok a) (refused r) f m = absurd m
 match-mono P Q (refused r) (ok b) f m = absurd m
-match-mono P Q (refused r) (refusedWith s) f m = m
+match-mono P Q (refused r) (refused s) f m = m
 
-match-test : {A B : Type 0} (P : A → B → Type 0) (b : Bool) (j : Judged A) (o : Outcome B) (r : Refusal) → Match P j o
-    → Match P (cond b j (refused r)) (refuseIf (not b) r o)
-match-test P true j o r m = m
-match-test P false j o r m = refl
+match-test : {A B : Type 0} (P : A → B → Type 0) (b : Bool) (o : Outcome A) (p : Outcome B) (r : Refusal) → Match P o p
+    → Match P (cond b o (refused r)) (refuseIf (not b) r p)
+match-test P true o p r m = m
+match-test P false o p r m = refl
 
 -- ===== Word by word =====
 
@@ -79,7 +69,7 @@ module _ (σ : Session) (b : Binding) (ps : List Key) (vs : Met) (S : Met → Li
   Same ts g x = (isWithin vs ≡ true → g .value ≡ x) × S (g .met) ts
 
   same-number : (ts : List T.Term) (ws : Met) → S ws ts → (c : Bool) (x y : ℕ) (r : Refusal) → (isWithin vs ≡ true → c ≡ true → x ≡ y)
-      → Match (Same ts) (having ws (cond c (fine x) (refused r))) (refuseIf (not c) r (ok y))
+      → Match (Same ts) (having ws (cond c (ok x) (refused r))) (refuseIf (not c) r (ok y))
   same-number ts ws s true x y r e = (λ few. e few refl, s)
   same-number ts ws s false x y r e = refl
 
@@ -105,7 +95,7 @@ module _ (σ : Session) (b : Binding) (ps : List Key) (vs : Met) (S : Met → Li
         (terms-match ts rest (g .met) (p .1)) (λ h xs q. (λ few i. p .0 few i ∷ q .0 few i, q .1)))
 
     test-match : (q : ℕ) (ts rest : List T.Term) (ws : Met) → S ws (ts ++ rest)
-        → Match (Same rest) (judgedThen (resolveTerms names ws ts) (testing q)) (andThen (termNumbers σ ps vs ts) (λ us. ok (testOf (atomFrom q us))))
+        → Match (Same rest) (andThen (resolveTerms names ws ts) (testing q)) (andThen (termNumbers σ ps vs ts) (λ us. ok (testOf (atomFrom q us))))
     test-match q ts rest ws s =
         match-then (Same rest) (Same rest) (resolveTerms names ws ts) (termNumbers σ ps vs ts) (testing q) (λ us. ok (testOf (atomFrom q us))) (terms-match ts rest ws s) (λ g us p.
         (λ few. ap (λ (ns : List ℕ). testOf (atomFrom q ns)) (p .0 few), p .1))
@@ -114,10 +104,10 @@ module _ (σ : Session) (b : Binding) (ps : List Key) (vs : Met) (S : Met → Li
     atom-match (equal a c) rest ws s = test-match equality (a ∷ c ∷ []) rest ws s
     atom-match (holds p ts) rest ws s = subst (λ (q : ℕ). Match (Same rest) (resolved q) (atomTest σ ps vs (holds p ts))) (sym (add-one (placeOf (keyOf p) (σ .names .predicates)))) by-name
       where
-        resolved : ℕ → Judged (Result Test)
+        resolved : ℕ → Outcome (Result Test)
         resolved q =
             cond (isAmong (keyOf p) (σ .names .predicates))
-            (cond (eqb (length ts) (getD (σ .model .arities) q 0)) (judgedThen (resolveTerms names ws ts) (testing q)) (refused Arity))
+            (cond (eqb (length ts) (getD (σ .model .arities) q 0)) (andThen (resolveTerms names ws ts) (testing q)) (refused Arity))
             (refused Name)
 
         by-name : Match (Same rest) (resolved (predicateOf (σ .names) (keyOf p))) (atomTest σ ps vs (holds p ts))
@@ -215,7 +205,7 @@ reads-any σ ps us d = tracked σ Any ps vs (Meets vs) (record { each = each; co
     counts ws m = stay-counts (keptMet (m .all)) ws (m .keeps) ∙ within-kept (m .all) ∙ stay-counts vs (m .all) (sym (m .whole))
 
     there : (c : Bool) (x y : ℕ) (ws : Met) (ts : List T.Term) → c ≡ true → (isWithin vs ≡ true → x ≡ y) → Meets vs ws ts
-        → Match (Same σ Any ps vs (Meets vs) ts) (fine (record { value = x; met = ws })) (refuseIf (not c) Unbound (ok y))
+        → Match (Same σ Any ps vs (Meets vs) ts) (ok (record { value = x; met = ws })) (refuseIf (not c) Unbound (ok y))
     there true x y ws ts e f m = (f, m)
     there false x y ws ts e f m = absurd (let z : _≡_ {A = ℕ} 0 1 = cc in omega arith)
 

@@ -6,7 +6,7 @@ use Prim.Native.Nat.{ℕ}
 use lib.Dec.{eqb}
 use lib.ListN.{length, length-map}
 use Rattle.refusal.specs.declared.Refusal.the-variants.{Name, Arity}
-use Rattle.refusal.specs.Outcome.{Outcome, andThen}
+use Rattle.refusal.specs.Outcome.{Outcome, ok, refused, andThen}
 use Rattle.words.specs.Keys.{keyOf}
 use Rattle.words.specs.declared.Key.{Key}
 use Rattle.names.specs.Keys.{isAmong}
@@ -15,51 +15,47 @@ use Rattle.text.specs.Line.{Words, GoodWords}
 use Rattle.events.specs.declared.Event.{Event}
 use Rattle.events.specs.Events.{diagramEvents, wordsEvents}
 use Rattle.events.specs.LineEvents.{line-events}
-use Rattle.reading.specs.Reading.{Judged}
-use Rattle.reading.specs.Reading.{andThen as judgedThen}
-use Rattle.reading.specs.Reading.Judged.{fine, refused}
 use Rattle.reading.specs.Head.{Head, headArguments, argumentKeys}
 use Rattle.reading.specs.LineLaws.{becomes-arguments}
 use Rattle.session.specs.Session.{refuseIf}
 use Rattle.session.specs.Declaring.{repeated}
-use Rattle.session.specs.Modelling.{outcomeOf}
 
 -- the keys of the arguments, unless one is repeated
-distinct-keys : (ks : List Key) (vs : List (List ℕ)) → argumentKeys ks vs ≡ cond (repeated ks (map keyOf vs)) (refused Name) (fine (ks ++ map keyOf vs))
+distinct-keys : (ks : List Key) (vs : List (List ℕ)) → argumentKeys ks vs ≡ cond (repeated ks (map keyOf vs)) (refused Name) (ok (ks ++ map keyOf vs))
 unfolding repeated
-distinct-keys ks [] = ap fine (sym (append-nil ks))
+distinct-keys ks [] = ap ok (sym (append-nil ks))
 distinct-keys ks (v ∷ vs) = go (isAmong (keyOf v) ks) (distinct-keys (ks ++ (keyOf v ∷ [])) vs)
   where
     more : List Key
     more = ks ++ (keyOf v ∷ [])
 
-    go : (b : Bool) → argumentKeys more vs ≡ cond (repeated more (map keyOf vs)) (refused Name) (fine (more ++ map keyOf vs))
-        → cond b (refused Name) (argumentKeys more vs) ≡ cond (b || repeated more (map keyOf vs)) (refused Name) (fine (ks ++ (keyOf v ∷ map keyOf vs)))
+    go : (b : Bool) → argumentKeys more vs ≡ cond (repeated more (map keyOf vs)) (refused Name) (ok (more ++ map keyOf vs))
+        → cond b (refused Name) (argumentKeys more vs) ≡ cond (b || repeated more (map keyOf vs)) (refused Name) (ok (ks ++ (keyOf v ∷ map keyOf vs)))
     go true ih = refl
-    go false ih = ih ∙ ap (λ (l : List Key). cond (repeated more (map keyOf vs)) (refused Name) (fine l)) (append-assoc ks (keyOf v ∷ []) (map keyOf vs))
+    go false ih = ih ∙ ap (λ (l : List Key). cond (repeated more (map keyOf vs)) (refused Name) (ok l)) (append-assoc ks (keyOf v ∷ []) (map keyOf vs))
 
 -- 3 for another count than n, 2 for a repeated argument, then what follows
 pub head-tree : {A : Type 0} (n : ℕ) (w : Words Becomes) → GoodWords Becomes w → (f : List Event → List Key → Outcome A)
-    → andThen (outcomeOf (headArguments n (wordsEvents Becomes w))) (λ h. f (h .rest) (h .variables))
+    → andThen (headArguments n (wordsEvents Becomes w)) (λ h. f (h .rest) (h .variables))
     ≡ refuseIf (not (eqb (length (map keyOf (w .1))) n)) Arity (refuseIf (repeated [] (map keyOf (w .1))) Name (f (diagramEvents (w .2)) (map keyOf (w .1))))
 head-tree n w g f =
-    ap (λ (j : Judged Head). andThen (outcomeOf j) (λ h. f (h .rest) (h .variables)))
+    ap (λ (j : Outcome Head). andThen j (λ h. f (h .rest) (h .variables)))
     (ap (headArguments n) (sym (line-events Becomes w g))
     ∙ becomes-arguments n w g
-    ∙ ap (λ (j : Judged (List Key)). checked (eqb (length (w .1)) n) j) (distinct-keys [] (w .1))
+    ∙ ap (λ (j : Outcome (List Key)). checked (eqb (length (w .1)) n) j) (distinct-keys [] (w .1))
     ∙ ap (λ (m : ℕ). checked (eqb m n) distinct) (sym (length-map (w .1) keyOf)))
     ∙ go (eqb (length (map keyOf (w .1))) n) (repeated [] (map keyOf (w .1)))
   where
     keys : List Key
     keys = map keyOf (w .1)
 
-    distinct : Judged (List Key)
-    distinct = cond (repeated [] keys) (refused Name) (fine keys)
+    distinct : Outcome (List Key)
+    distinct = cond (repeated [] keys) (refused Name) (ok keys)
 
-    checked : Bool → Judged (List Key) → Judged Head
-    checked b j = judgedThen (cond b j (refused Arity)) (λ ks. fine (record { variables = ks; rest = diagramEvents (w .2) }))
+    checked : Bool → Outcome (List Key) → Outcome Head
+    checked b j = andThen (cond b j (refused Arity)) (λ ks. ok (record { variables = ks; rest = diagramEvents (w .2) }))
 
-    go : (b c : Bool) → andThen (outcomeOf (checked b (cond c (refused Name) (fine keys)))) (λ h. f (h .rest) (h .variables))
+    go : (b c : Bool) → andThen (checked b (cond c (refused Name) (ok keys))) (λ h. f (h .rest) (h .variables))
         ≡ refuseIf (not b) Arity (refuseIf c Name (f (diagramEvents (w .2)) keys))
     go true true = refl
     go true false = refl

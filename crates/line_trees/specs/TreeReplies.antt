@@ -20,7 +20,6 @@ use Rattle.text.specs.Line.Line.{line}
 use Rattle.diagram.specs.Diagram.{Diagram}
 use Rattle.diagram.specs.Rows.{rows}
 use Rattle.regression.specs.RegressCall.{leafAbove}
-use Rattle.cutting.specs.Cut.{diagramAnswer}
 use Rattle.reading.specs.Reading.{arguments}
 use Rattle.build.specs.Build.{textDiagram, rewardDiagram}
 use Rattle.mdp.specs.Model.{mostVariants}
@@ -29,11 +28,11 @@ use Rattle.session.specs.Place.{ruleOf}
 use Rattle.session.specs.Session.{Session, refuseIf}
 use Rattle.session.specs.Declaring.{constantLine, predicateLine, totalLine, discountLine, repeated, actionLine}
 use Rattle.session.specs.Facts.{predicateOf, objectsLine, isLine, trueLine}
-use Rattle.session.specs.Modelling.{mostModelRows, rowsWith, withReward, withVariant, truthsNow, isSome, withTruth}
+use Rattle.session.specs.ModelLines.{mostModelRows, rowsWith, withReward, withVariant, truthsNow, isSome, withTruth}
 use Rattle.session.specs.Replaying.{didLine}
-use Rattle.session.specs.Running.{withHeld, startLine, valueRead, backupLine, cutLine, cutSays, reduceLine, formRead, bestRead, countRead}
+use Rattle.session.specs.Running.{startLine, valueRead, backupLine, cutLine, reduceLine, formRead, bestRead, countRead}
 use Rattle.session.specs.Replies.{Reply, allowed, withNames, withLive, withVocabulary, withTotal, withDiscount, withAction}
-use Rattle.session.specs.Replies.{refusal, quietly, valueSays, backupSays, reduceSays, textSays, bestSays, countSays, didSays, placed}
+use Rattle.session.specs.Replies.{refusal, quietly, valueSays, backupSays, cutSays, reduceSays, textSays, bestSays, countSays, didSays, placed}
 use Rattle.line_trees.specs.TreeReading.{rewardVariables, readTree}
 
 -- (reward DIAGRAM): no parameter, any variables, of each kind by ascending N where each is written so; its row steps, closed up; last 9 for model rows
@@ -72,7 +71,7 @@ truthTree σ k vs d =
 -- what a line of each kind does and is answered, where it stands where it may; no tree is of the last kind
 unfoldable pub treeDone : Session → ℕ → (k : Kind) → Words k → Reply
 unfolding keyOf valueOf constantLine predicateLine totalLine discountLine actionLine rewardTree withReward weightTree withVariant truthTree withTruth
-    startLine objectsLine isLine trueLine withVocabulary withTotal withDiscount withAction valueRead backupLine cutLine diagramAnswer reduceLine formRead bestRead
+    startLine objectsLine isLine trueLine withVocabulary withTotal withDiscount withAction valueRead backupLine cutLine reduceLine formRead bestRead
     countRead didLine rows
 treeDone σ number K.Constant n = quietly σ number (withNames σ) (constantLine (σ .names) (keyOf n))
 treeDone σ number K.Predicate w =
@@ -91,10 +90,7 @@ treeDone σ number K.True w =
     quietly σ number (withLive σ) (trueLine (σ .model .arities) (σ .names) (σ .live) (keyOf (w .0)) (map valueOf (w .1)))
 treeDone σ number K.Value w = valueSays σ number (valueRead (σ .model .arities) (σ .live) (σ .held .diagram))
 treeDone σ number K.Backup w = backupSays σ number (backupLine (σ .model) (σ .held))
-treeDone σ number K.Cut w = record {
-  session = withHeld σ (σ .part) (cutLine (σ .model .arities) (σ .held));
-  answer = cutSays number (diagramAnswer (σ .model .arities) (σ .held .diagram));
-}
+treeDone σ number K.Cut w = cutSays σ number (cutLine (σ .model .arities) (σ .held))
 treeDone σ number K.Show w = record { session = σ; answer = A.Show (length (rows (σ .held .diagram))) }
 treeDone σ number K.Reduce w = reduceSays σ number (reduceLine (σ .model .arities) (σ .held))
 treeDone σ number K.Text w = textSays σ number (formRead (σ .model .arities) (σ .names) (σ .held .diagram))

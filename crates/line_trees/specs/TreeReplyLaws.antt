@@ -29,8 +29,7 @@ use Rattle.events.specs.Events.{parameterEvent, numberEvent, diagramEvents, wor
 use Rattle.events.specs.LineEvents.{line-events}
 use Rattle.events.specs.Contents.{keysIn, numbersIn}
 use Rattle.reading.specs.declared.Binding.the-variants.{Any, None, Only}
-use Rattle.reading.specs.Reading.{Names as ReadingNames, Judged, Met, arguments, Written, reading}
-use Rattle.reading.specs.Reading.Judged.{fine, refused as judged}
+use Rattle.reading.specs.Reading.{Names as ReadingNames, Met, arguments, Written, reading}
 use Rattle.reading.specs.Numbering.{rewardReading}
 use Rattle.reading.specs.Head.{headNumber, openedNumber, headArguments}
 use Rattle.build.specs.Build.{textDiagram, rewardDiagram}
@@ -43,8 +42,8 @@ use Rattle.session.specs.Place.{ruleOf}
 use Rattle.session.specs.Session.{Session, refuseIf}
 use Rattle.session.specs.Declaring.{repeated}
 use Rattle.session.specs.Facts.{predicateOf}
-use Rattle.session.specs.Modelling.{mostModelRows, outcomeOf, namesFor, rowsWith, withReward, rewardRead, rewardLine, withVariant, weightRead, variantLine}
-use Rattle.session.specs.Modelling.{truthsNow, isSome, withTruth, truthRead, becomesLine}
+use Rattle.session.specs.ModelLines.{mostModelRows, namesFor, rowsWith, withReward, rewardRead, rewardLine, withVariant, weightRead, variantLine}
+use Rattle.session.specs.ModelLines.{truthsNow, isSome, withTruth, truthRead, becomesLine}
 use Rattle.session.specs.Replaying.{didLine}
 use Rattle.session.specs.Replies.{Reply, allowed, refusal, quietly, didSays, done, placed, replyTo, wordsOf, reply}
 use Rattle.line_trees.specs.TreeReading.{firstVariables, rewardVariables, readTree}
@@ -92,7 +91,7 @@ module _ (σ : Session) where
       let last : Diagram → Outcome Diagram = λ x. refuseIf (ltb mostModelRows (rowsWith (σ .rows) x)) Space (ok x) in
       let us : Met = firstVariables d in
       let ν = namesFor (σ .names) (σ .model .arities) Any [] in
-      ap (λ (j : Judged Written). andThen (outcomeOf j) (λ w. andThen (builtClosed (σ .model .arities) (w .operations)) last))
+      ap (λ (j : Outcome Written). andThen j (λ w. andThen (builtClosed (σ .model .arities) (w .operations)) last))
       (ap (reading ν (diagramEvents d)) (diagram-keys d) ∙ reading-kept ν refl (diagramEvents d) us)
       ∙ read-built (builtClosed (σ .model .arities)) (rewardDiagram (σ .model .arities)) (built-reward (σ .model .arities))
       σ Any [] (rewardVariables d) (keptMet us) d shallow (reads-any σ [] us d) last
@@ -140,7 +139,7 @@ module _ (σ : Session) where
 
       -- the diagram by words, behind the head
       by-words : ℕ → List Event → List Key → Outcome (ℕ × Diagram)
-      by-words q es us = andThen (outcomeOf (reading ν es (arguments us))) (λ u. andThen (built (u .operations)) (checks {A = ℕ × Diagram} (λ x. (q, x))))
+      by-words q es us = andThen (reading ν es (arguments us)) (λ u. andThen (built (u .operations)) (checks {A = ℕ × Diagram} (λ x. (q, x))))
 
       by-tree : Outcome Diagram
       by-tree = andThen (readTree σ ps (arguments vs) (w .2)) (λ r. andThen (textDiagram r) (checks (λ x. x)))
@@ -159,7 +158,7 @@ module _ (σ : Session) where
       head false c = refl
 
       headed : ℕ → Outcome (ℕ × Diagram)
-      headed q = andThen (outcomeOf (headArguments (getD ar q 0) (wordsEvents K.Becomes w))) (λ h. by-words q (h .rest) (h .variables))
+      headed q = andThen (headArguments (getD ar q 0) (wordsEvents K.Becomes w)) (λ h. by-words q (h .rest) (h .variables))
 
       head-by-tree : Outcome Diagram
       head-by-tree = refuseIf (not (eqb (length vs) (getD ar p 0))) Arity (refuseIf (repeated [] vs) Name by-tree)
@@ -172,7 +171,7 @@ module _ (σ : Session) where
       after : ℕ → Outcome (ℕ × Diagram)
       after q = refuseIf (isSome (truthsNow (σ .model .actions) q)) Name (headed q)
 
-      declared : (b : Bool) → andThen (outcomeOf (cond b (fine (placeOf (keyOf (w .0)) (σ .names .predicates) + 1)) (judged Name))) after
+      declared : (b : Bool) → andThen (cond b (ok (placeOf (keyOf (w .0)) (σ .names .predicates) + 1)) (refused Name)) after
           ≡ andThen (refuseIf (not b || isSome (truthsNow (σ .model .actions) p)) Name head-by-tree) (λ x. ok (paired x))
       declared true = ap after (add-one _) ∙ new (isSome (truthsNow (σ .model .actions) p))
       declared false = refl

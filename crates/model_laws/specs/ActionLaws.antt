@@ -7,7 +7,7 @@ use lib.ListN.{length, length-append}
 use Rattle.state.specs.Max.{sumOf}
 use Rattle.regression.specs.Regression.{Truths}
 use Rattle.mdp.specs.Model.{Variant, Action, Every, GoodVariant, GoodAction, mostVariants}
-use Rattle.session.specs.Modelling.{addVariant, lastTruths, lastVariant}
+use Rattle.session.specs.ModelLines.{addVariant, lastTruths, lastVariant}
 use Rattle.session.specs.Good.{LastAction, variantCount}
 
 -- ===== Lists =====

@@ -12,7 +12,7 @@ use Rattle.paths.specs.Paths.{paths, mostPaths}
 use Rattle.contradiction.specs.Contradiction.{LeadsTo}
 use Rattle.mdp.specs.Model.{Action, Every}
 use Rattle.mdp.specs.Bellman.{weightIn}
-use Rattle.session.specs.Modelling.{weightsSum, weighed}
+use Rattle.session.specs.ModelLines.{weightsSum, weighed}
 
 -- the weights of an action's variants, read in a state with a tuple for the parameters, add up to w: over W they are probabilities
 abbrev pub AddsUp : List ℕ → ℕ → Action → Type 0

@@ -26,7 +26,6 @@ use Rattle.events.specs.declared.Event.{Event}
 use Rattle.events.specs.Events.{diagramEvents, wordsEvents}
 use Rattle.reading.specs.declared.Binding.the-variants.{Only}
 use Rattle.reading.specs.Reading.{arguments, reading}
-use Rattle.reading.specs.Reading.Judged.{fine}
 use Rattle.reading.specs.Head.{headNumber, headArguments}
 use Rattle.reading.specs.Tree.{Named, maximumReach}
 use Rattle.reading.specs.GoodLaws.{named-below}
@@ -34,9 +33,8 @@ use Rattle.build.specs.Machine.{mostTests, built}
 use Rattle.mdp.specs.Model.{Variant, Action, GoodTruthDiagram, GoodVariant}
 use Rattle.session.specs.declared.Part.the-variants.{Model as ModelPart}
 use Rattle.session.specs.Session.{Names, Session}
-use Rattle.session.specs.Modelling.{mostModelRows, namesFor, rowsWith, withTruthAt, lastVariant, truthsNow, isSome, withTruth, truthRead, becomesLine}
+use Rattle.session.specs.ModelLines.{mostModelRows, namesFor, rowsWith, withTruthAt, lastVariant, truthsNow, isSome, withTruth, truthRead, becomesLine}
 use Rattle.session.specs.Good.{GoodTables, GoodSession}
-use Rattle.model_laws.specs.OutcomeLaws.{accepted-read}
 use Rattle.model_laws.specs.SessionLaws.{while-model, parts-with}
 use Rattle.model_laws.specs.ActionLaws.{withTruths, length-last, last-kept, every-last, variants-kept}
 use Rattle.model_laws.specs.DrawnLaws.{Read, read-within}
@@ -63,15 +61,15 @@ became : (n : Names) (ar : List ℕ) → GoodTables n ar → (truths : Truths) (
     → Accepted (λ (t : ℕ × Diagram). Became n ar r (t .0) (t .1)) (truthRead n ar truths r (wordsEvents Becomes (p, vs, w)))
 unfolding truthRead
 became n ar tables truths r p vs w shallow =
-    accepted-read (headNumber (n .predicates) (wordsEvents Becomes (p, vs, w))) _ (λ q i.
+    accepted-next (headNumber (n .predicates) (wordsEvents Becomes (p, vs, w))) _ (λ q i.
     accepted-cond (isSome (truths q)) Name _ (λ new.
-    accepted-read (headArguments (getD ar q 0) (wordsEvents Becomes (p, vs, w))) _ (λ h j.
+    accepted-next (headArguments (getD ar q 0) (wordsEvents Becomes (p, vs, w))) _ (λ h j.
     let x = head-headed (getD ar q 0) (keyOf p) vs (diagramEvents w) h j in
-    accepted-read (reading (namesFor n ar Only (n .parameters)) (h .rest) (arguments (h .variables))) _ (λ u e.
+    accepted-next (reading (namesFor n ar Only (n .parameters)) (h .rest) (arguments (h .variables))) _ (λ u e.
     accepted-next (built (u .operations)) _ (λ d m.
     accepted-cond (leafAbove 1 d) Truth _ (λ bits.
     accepted-cond (ltb mostModelRows (rowsWith r d)) Space _ (λ few.
-    let f = subst (λ (es : List Event). reading (namesFor n ar Only (n .parameters)) es (arguments (h .variables)) ≡ fine u) (x .rest) e in
+    let f = subst (λ (es : List Event). reading (namesFor n ar Only (n .parameters)) es (arguments (h .variables)) ≡ ok u) (x .rest) e in
     let y = line-read n ar tables w shallow Only (arguments (h .variables)) u d (n .parameters) (tables .parameters) f m in
     accepted-ok
     (record {

@@ -15,7 +15,7 @@ use Rattle.diagram.specs.Rows.{rows}
 use Rattle.diagram.specs.Listing.{Fine, Good}
 use Rattle.rename.specs.Ascending.{All}
 use Rattle.rename.specs.TermLaws.{each-terms}
-use Rattle.rename.specs.ClosingLaws.{closed-good, closed-twice}
+use Rattle.rename.specs.ClosingLaws.{closed-count, closed-good, closed-twice}
 use Rattle.state.specs.State.{atomOf, meaning}
 use Rattle.state.specs.Terms.{Each, Terms}
 use Rattle.state.specs.ValueLaws.{Terms-mono}
@@ -25,7 +25,6 @@ use Rattle.regression.specs.StepLaws.{eval-most, most-eval, eval-test, ordered-
 use Rattle.regression.specs.Result.{AtMost, asked, stepped}
 use Rattle.regression.specs.Parameters.{Allowed, Within}
 use Rattle.reduction.specs.ClosedLaws.{within-closed}
-use Rattle.mdp.specs.CallLaws.{closed-count}
 use Rattle.reading.specs.Tree.{Reading, depth, opsOf, Reach, Named, GoodTest, GoodReading}
 use Rattle.reading.specs.Tree.Reading.{branch as conditional, number}
 use Rattle.build.specs.Written.{diagramFor}

@@ -26,7 +26,6 @@
 
 pub mod ModelRows
 pub mod Adding
-pub mod OutcomeLaws
 pub mod SessionLaws
 pub mod ActionLaws
 pub mod DeclaringLaws

@@ -12,12 +12,11 @@ use Rattle.refusal.specs.Outcome.{ok}
 use Rattle.events.specs.Events.{diagramEvents}
 use Rattle.reading.specs.declared.Binding.{Binding}
 use Rattle.reading.specs.Reading.{Met, Written, reading}
-use Rattle.reading.specs.Reading.Judged.{fine}
 use Rattle.reading.specs.Tree.{reach, NamesFit}
 use Rattle.reading.specs.GoodLaws.{reading-sound}
 use Rattle.build.specs.Machine.{mostTests, built, builtClosed}
 use Rattle.session.specs.Session.{Names}
-use Rattle.session.specs.Modelling.{namesFor}
+use Rattle.session.specs.ModelLines.{namesFor}
 use Rattle.session.specs.Good.{GoodTables, GoodValue}
 use Rattle.model_laws.specs.DrawnLaws.{Read, built-read, built-good}
 
@@ -27,14 +26,14 @@ module _ (n : Names) (ar : List ℕ) (good : GoodTables n ar) where
 
   module _ (d : T.Diagram) (shallow : T.brackets d ≤ mostTests) (b : Binding) (vs : Met) (w : Written) (x : Diagram) where
     -- a weight or a truth diagram
-    pub line-read : (ps : List Key) → length ps ≤ parameterCount → reading (namesFor n ar b ps) (diagramEvents d) vs ≡ fine w → built (w .operations) ≡ ok x
+    pub line-read : (ps : List Key) → length ps ≤ parameterCount → reading (namesFor n ar b ps) (diagramEvents d) vs ≡ ok w → built (w .operations) ≡ ok x
         → Read ar (length ps) (reach b vs) x
     line-read ps few e m =
         let s = reading-sound (namesFor n ar b ps) (names-fit b ps few) d vs w e in
         built-read ar (good .arities) (length ps) (reach b vs) (s .tree) (s .good) (omega (arith, s .shallow)) x (ap built (sym (s .operations)) ∙ m)
 
     -- a reward, which has no parameters
-    pub line-reward : reading (namesFor n ar b []) (diagramEvents d) vs ≡ fine w → builtClosed ar (w .operations) ≡ ok x → GoodValue ar x
+    pub line-reward : reading (namesFor n ar b []) (diagramEvents d) vs ≡ ok w → builtClosed ar (w .operations) ≡ ok x → GoodValue ar x
     line-reward e m =
         let s = reading-sound (namesFor n ar b []) (names-fit b [] (omega arith)) d vs w e in
         built-good ar (good .arities) (reach b vs) (s .tree) (s .good) (omega (arith, s .shallow)) x (ap (builtClosed ar) (sym (s .operations)) ∙ m)

@@ -17,9 +17,8 @@ use Rattle.reading.specs.Numbering.{metFirst, rewardReading}
 use Rattle.build.specs.Machine.{mostTests, builtClosed}
 use Rattle.session.specs.declared.Part.the-variants.{Model as ModelPart}
 use Rattle.session.specs.Session.{Names, Session}
-use Rattle.session.specs.Modelling.{mostModelRows, namesFor, rowsWith, withReward, rewardRead, rewardLine}
+use Rattle.session.specs.ModelLines.{mostModelRows, namesFor, rowsWith, withReward, rewardRead, rewardLine}
 use Rattle.session.specs.Good.{GoodTables, GoodValue, GoodSession}
-use Rattle.model_laws.specs.OutcomeLaws.{accepted-read}
 use Rattle.model_laws.specs.SessionLaws.{while-model, parts-with}
 use Rattle.model_laws.specs.ReadLaws.{line-reward}
 
@@ -32,7 +31,7 @@ rewarded : (n : Names) (ar : List ℕ) → GoodTables n ar → (r : ℕ) (w : T.
 unfolding rewardRead rewardReading
 rewarded n ar tables r w shallow =
     let vs = metFirst (diagramEvents w) in
-    accepted-read (reading (namesFor n ar Any []) (diagramEvents w) vs) _ (λ u e.
+    accepted-next (reading (namesFor n ar Any []) (diagramEvents w) vs) _ (λ u e.
     accepted-next (builtClosed ar (u .operations)) _ (λ d m.
     accepted-cond (ltb mostModelRows (rowsWith r d)) Space _ (λ few.
     accepted-ok (record { good = line-reward n ar tables w shallow Any vs u d e m; few = ltb-false mostModelRows (rowsWith r d) few }))))

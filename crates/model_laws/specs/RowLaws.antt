@@ -25,17 +25,15 @@ use Rattle.events.specs.declared.Event.{Event}
 use Rattle.events.specs.declared.Event.the-variants as E
 use Rattle.reading.specs.declared.Binding.the-variants.{Only}
 use Rattle.reading.specs.Reading.{arguments, reading}
-use Rattle.reading.specs.Reading.Judged.{fine}
-use Rattle.reading.specs.JudgedLaws.{apart, passed}
+use Rattle.reading.specs.OutcomeLaws.{apart, passed}
 use Rattle.reading.specs.Head.{openedNumber, headNumber, headArguments}
 use Rattle.build.specs.Machine.{built}
 use Rattle.session.specs.Session.{Names, Session}
-use Rattle.session.specs.Modelling.{mostModelRows, namesFor, rowsWith, withReward, rewardRead, rewardLine, addVariant, noTruths, withVariant, weightRead, variantLine}
-use Rattle.session.specs.Modelling.{withTruthAt, lastTruths, lastVariant, truthsOfLast, truthsNow, isSome, withTruth, truthRead, becomesLine}
+use Rattle.session.specs.ModelLines.{mostModelRows, namesFor, rowsWith, withReward, rewardRead, rewardLine, addVariant, noTruths, withVariant, weightRead, variantLine}
+use Rattle.session.specs.ModelLines.{withTruthAt, lastTruths, lastVariant, truthsOfLast, truthsNow, isSome, withTruth, truthRead, becomesLine}
 use Rattle.session.specs.Replies.{withAction}
 use Rattle.session.specs.Good.{LastAction, GoodSession}
 use Rattle.model_laws.specs.ModelRows.{rowsIn, truthRows, variantRows, actionRows, modelRows, Counted}
-use Rattle.model_laws.specs.OutcomeLaws.{accepted-read}
 use Rattle.model_laws.specs.ActionLaws.{sum-more}
 
 -- ===== A truth diagram more =====
@@ -98,7 +96,8 @@ added-rows v (a ∷ b ∷ l) one = omega (arith, added-rows v (b ∷ l) (omega a
 
 -- ===== The predicate of (becomes) =====
 
-number-few : (ks : List Key) (es : List Event) (p : ℕ) → headNumber ks es ≡ fine p → p ≤ length ks
+-- it is declared
+pub number-few : (ks : List Key) (es : List Event) (p : ℕ) → headNumber ks es ≡ ok p → p ≤ length ks
 unfolding headNumber openedNumber isAmong
 number-few ks [] p e = absurd (apart e)
 number-few ks (E.Holds k n ∷ es) p e =
@@ -126,10 +125,10 @@ record Free (n : Names) (truths : Truths) (p : ℕ) : Type 0 where
 truth-free : (n : Names) (ar : List ℕ) (truths : Truths) (r : ℕ) (es : List Event) → Accepted (λ (t : ℕ × Diagram). Free n truths (t .0)) (truthRead n ar truths r es)
 unfolding truthRead
 truth-free n ar truths r es =
-    accepted-read (headNumber (n .predicates) es) _ (λ p i.
+    accepted-next (headNumber (n .predicates) es) _ (λ p i.
     accepted-cond (isSome (truths p)) Name _ (λ new.
-    accepted-read (headArguments (getD ar p 0) es) _ (λ h j.
-    accepted-read (reading (namesFor n ar Only (n .parameters)) (h .rest) (arguments (h .variables))) _ (λ u e.
+    accepted-next (headArguments (getD ar p 0) es) _ (λ h j.
+    accepted-next (reading (namesFor n ar Only (n .parameters)) (h .rest) (arguments (h .variables))) _ (λ u e.
     accepted-next (built (u .operations)) _ (λ d m.
     accepted-cond (leafAbove 1 d) Truth _ (λ bits.
     accepted-cond (ltb mostModelRows (rowsWith r d)) Space _ (λ small.

@@ -8,7 +8,7 @@ use Rattle.diagram.specs.Diagram.{Diagram}
 use Rattle.mdp.specs.Model.{Action, Model, Every, GoodAction}
 use Rattle.session.specs.declared.Part.the-variants.{Model as ModelPart, Run}
 use Rattle.session.specs.Session.{Singles, Session}
-use Rattle.session.specs.Modelling.{mostModelRows}
+use Rattle.session.specs.ModelLines.{mostModelRows}
 use Rattle.session.specs.Good.{GoodTables, Agreeing, GoodValue, GoodParts, GoodLog, GoodSession}
 
 pub while-model : (σ : Session) → σ .part ≡ ModelPart → σ .live .objects ≡ 0 → GoodLog (σ .live) → GoodTables (σ .names) (σ .model .arities)

@@ -29,9 +29,8 @@ use Rattle.build.specs.Machine.{mostTests, built}
 use Rattle.mdp.specs.Model.{Variant, Action, GoodVariant, mostVariants}
 use Rattle.session.specs.declared.Part.the-variants.{Model as ModelPart}
 use Rattle.session.specs.Session.{Names, Session}
-use Rattle.session.specs.Modelling.{mostModelRows, namesFor, rowsWith, addVariant, noTruths, withVariant, weightRead, variantLine}
+use Rattle.session.specs.ModelLines.{mostModelRows, namesFor, rowsWith, addVariant, noTruths, withVariant, weightRead, variantLine}
 use Rattle.session.specs.Good.{GoodTables, LastAction, GoodSession}
-use Rattle.model_laws.specs.OutcomeLaws.{accepted-read}
 use Rattle.model_laws.specs.SessionLaws.{while-model, parts-with}
 use Rattle.model_laws.specs.ActionLaws.{length-more, length-added, last-added, every-added, variants-added, variants-most}
 use Rattle.model_laws.specs.DrawnLaws.{Read}
@@ -69,7 +68,7 @@ weighed : (n : Names) (ar : List ℕ) → GoodTables n ar → (r : ℕ) (k : Key
 unfolding weightRead
 weighed n ar tables r k w shallow =
     accepted-cond (isAmong k (n .variants)) Name _ (λ new.
-    accepted-read (reading (namesFor n ar None (n .parameters)) (diagramEvents w) (arguments [])) _ (λ u e.
+    accepted-next (reading (namesFor n ar None (n .parameters)) (diagramEvents w) (arguments [])) _ (λ u e.
     accepted-next (built (u .operations)) _ (λ d m.
     accepted-cond (leb mostVariants (length (n .variants)) || ltb mostModelRows (rowsWith r d)) Space _ (λ z.
     let q = neither (leb mostVariants (length (n .variants))) _ z in

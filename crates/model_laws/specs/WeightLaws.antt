@@ -44,7 +44,7 @@ use Rattle.mdp.specs.Bellman.{weightIn}
 use Rattle.mdp.specs.Backup.{given, combined}
 use Rattle.mdp.specs.CallLaws.{leaf-value}
 use Rattle.session.specs.Session.{refuseIf}
-use Rattle.session.specs.Modelling.{weightsSum, weighed}
+use Rattle.session.specs.ModelLines.{weightsSum, weighed}
 use Rattle.model_laws.specs.Adding.{AddsUp, WeightSum, PassesRule, FailsRule, here, behind, IsWeighed}
 use Rattle.model_laws.specs.ActionLaws.{every-mono}
 

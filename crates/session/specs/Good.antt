@@ -17,7 +17,7 @@ use Rattle.regression.specs.Parameters.{Within}
 use Rattle.mdp.specs.Model.{Action, Model, Every, GoodAction, GoodModel, mostTotal, mostDenominator, mostActions, mostVariants}
 use Rattle.session.specs.declared.Part.the-variants.{Model as ModelPart, Run}
 use Rattle.session.specs.Session.{Names, Singles, Live, Session}
-use Rattle.session.specs.Modelling.{mostModelRows}
+use Rattle.session.specs.ModelLines.{mostModelRows}
 
 -- names of variants, of all actions together
 abbrev pub mostVariantNames : ℕ

@@ -19,7 +19,7 @@
 --   isTotal, totalLine, isDiscount, discountLine == (total W), (discount G D)
 --   repeated, actionLine == (action n !p ..)
 --   mostModelRows, rowsWith == all model listings together have 2,048 rows
---   outcomeOf, namesFor == a word's checks as an outcome; the names that a diagram of the line may have
+--   namesFor == the names that a diagram of the line may have
 --   rewardRead, withReward, rewardLine == (reward DIAGRAM)
 --   weightRead, addVariant, noTruths, withVariant, variantLine == (variant n WEIGHT), of the last action
 --   truthRead, isSome, withTruthAt, lastTruths, lastVariant, truthsOfLast, truthsNow, withTruth, becomesLine == (becomes (p ?a ..) DIAGRAM)
@@ -32,7 +32,7 @@
 --   withFact, begunAgain, sameWord, rowIs, isFact, factLine, predicateOf, trueLine == (true p o ..)
 --   stateIn, valueRead == (value): the state in hand, and the value diagram's number in it, or 15
 --   withHeld, backupLine == (backup)
---   cutTo, cutLine, cutSays == (cut)
+--   CutDone, cutTo, cutLine == (cut): the value diagram and k behind it, the row and the edge that went, the rows left
 --   reduceLine == (reduce) (document 02, L13)
 --   tablesIn, formRead == (text): the names declared; how many bytes the value has as a form, or 19 (document 02, L2)
 --   bestRead, noKey, bestIs == (best): the move, or what refuses it; the action's name and its objects (document 02, L9)
@@ -42,9 +42,10 @@
 -- Definitions: replies
 --   Reply == the session behind a line, and what the line is answered
 --   withModel, withNames, withLive, withVocabulary, withTotal, withDiscount, withAction == a session with one part new
---   refusal, silent, quietly == a refused line leaves the session as it was; nothing is printed; a line that prints nothing unless it is refused
---   valueSays, backupSays, reduceSays, textSays, bestSays, countSays, didSays == value, k, S^k; k, rows; rows; the bytes of the form; action and
---       objects; objects and values; count and total
+--   refusal, silent == a refused line leaves the session as it was; nothing is printed
+--   answered, quietly == an accepted line is answered by its outcome, a refused one leaves the session as it was; a line that prints nothing unless it is refused
+--   valueSays, backupSays, cutSays, reduceSays, textSays, bestSays, countSays, didSays == value, k, S^k; k, rows; row, edge, rows; rows; the bytes of the
+--       form; action and objects; objects and values; count and total
 --   done == what each kind of line does and is answered, where it stands where it may
 --   replyTo, wordsOf, reply == 1, 5 or 20, then the line's own checks; a line in bytes, of which one of none passes (document 02, L1)
 --
@@ -66,7 +67,7 @@ pub mod Place
 pub mod Session
 pub mod Declaring
 pub mod Facts
-pub mod Modelling
+pub mod ModelLines
 pub mod Running
 pub mod Replaying
 pub mod Replies

@@ -10,7 +10,6 @@ use Rattle.refusal.specs.declared.Refusal.the-variants.{Form, Place, Missing}
 use Rattle.diagram.specs.Rows.{rows}
 use Rattle.diagram.specs.Words.{everyBelow}
 use Rattle.refusal.specs.Outcome.{Outcome, ok, refused}
-use Rattle.cutting.specs.Cut.{diagramAnswer}
 use Rattle.mdp.specs.Model.{Action, Model, scale}
 use Rattle.mdp.specs.Runs.{Held}
 use Rattle.text.specs.declared.Kind.{Kind}
@@ -30,9 +29,9 @@ use Rattle.session.specs.Place.{ruleOf}
 use Rattle.session.specs.Session.{Names, Singles, Live, Session, refuseIf}
 use Rattle.session.specs.Declaring.{Vocabulary, constantLine, predicateLine, totalLine, discountLine, actionLine}
 use Rattle.session.specs.Facts.{objectsLine, isLine, trueLine}
-use Rattle.session.specs.Modelling.{rewardLine, variantLine, becomesLine}
+use Rattle.session.specs.ModelLines.{rewardLine, variantLine, becomesLine}
 use Rattle.session.specs.Replaying.{didLine}
-use Rattle.session.specs.Running.{withHeld, startLine, valueRead, backupLine, cutLine, cutSays, reduceLine, formRead, bestRead, bestIs, countRead}
+use Rattle.session.specs.Running.{withHeld, startLine, valueRead, backupLine, CutDone, cutLine, reduceLine, formRead, bestRead, bestIs, countRead}
 
 -- the session behind a line, and what the line is answered
 pub record Reply : Type 0 where
@@ -169,50 +168,53 @@ refusal σ number r = record { session = σ; answer = A.Refused r number }
 abbrev pub silent : Session → Reply
 silent τ = record { session = τ; answer = A.Nothing }
 
--- a line that prints nothing unless it is refused: a refused line leaves the session as it was
+-- an accepted line is answered by f of its outcome; a refused one leaves the session as it was, whatever the line is
+abbrev pub answered : {A : Type 0} → Session → ℕ → (A → Reply) → Outcome A → Reply
+answered σ number f (ok a) = f a
+answered σ number f (refused r) = refusal σ number r
+
+-- a line that prints nothing unless it is refused
 abbrev pub quietly : {A : Type 0} → Session → ℕ → (A → Session) → Outcome A → Reply
-quietly σ number f (ok a) = silent (f a)
-quietly σ number f (refused r) = refusal σ number r
+quietly σ number f o = answered σ number (λ a. silent (f a)) o
 
 -- value, k, S^k
 abbrev pub valueSays : Session → ℕ → Outcome ℕ → Reply
-valueSays σ number (ok v) = record { session = σ; answer = A.Value v (σ .held .steps) (scale (σ .model) ^ σ .held .steps) }
-valueSays σ number (refused r) = refusal σ number r
+valueSays σ number o = answered σ number (λ v. record { session = σ; answer = A.Value v (σ .held .steps) (scale (σ .model) ^ σ .held .steps) }) o
 
 -- k, rows
 abbrev pub backupSays : Session → ℕ → Outcome Held → Reply
-backupSays σ number (ok h) = record { session = withHeld σ (σ .part) h; answer = A.Backup (h .steps) (length (rows (h .diagram))) }
-backupSays σ number (refused r) = refusal σ number r
+backupSays σ number o =
+    answered σ number (λ (h : Held). record { session = withHeld σ (σ .part) h; answer = A.Backup (h .steps) (length (rows (h .diagram))) }) o
+
+-- row, edge, rows left
+abbrev pub cutSays : Session → ℕ → Outcome CutDone → Reply
+cutSays σ number o =
+    answered σ number (λ (x : CutDone). record { session = withHeld σ (σ .part) (x .held); answer = A.Cut (x .row) (x .edge) (x .left) }) o
 
 -- rows
 abbrev pub reduceSays : Session → ℕ → Outcome Held → Reply
-reduceSays σ number (ok h) = record { session = withHeld σ (σ .part) h; answer = A.Reduce (length (rows (h .diagram))) }
-reduceSays σ number (refused r) = refusal σ number r
+reduceSays σ number o = answered σ number (λ (h : Held). record { session = withHeld σ (σ .part) h; answer = A.Reduce (length (rows (h .diagram))) }) o
 
 -- the bytes of the value as a form
 abbrev pub textSays : Session → ℕ → Outcome ℕ → Reply
-textSays σ number (ok n) = record { session = σ; answer = A.Text n }
-textSays σ number (refused r) = refusal σ number r
+textSays σ number o = answered σ number (λ n. record { session = σ; answer = A.Text n }) o
 
 -- action and objects
 abbrev pub bestSays : Session → ℕ → Outcome Move → Reply
-bestSays σ number (ok x) = record { session = σ; answer = bestIs (σ .names) x }
-bestSays σ number (refused r) = refusal σ number r
+bestSays σ number o = answered σ number (λ x. record { session = σ; answer = bestIs (σ .names) x }) o
 
 -- the objects of the states counted, and how many values occur
 abbrev pub countSays : Session → ℕ → ℕ → Outcome (List Entry) → Reply
-countSays σ number n (ok es) = record { session = σ; answer = A.Count n (length es) }
-countSays σ number n (refused r) = refusal σ number r
+countSays σ number n o = answered σ number (λ es. record { session = σ; answer = A.Count n (length es) }) o
 
 -- count and total
 abbrev pub didSays : Session → ℕ → Outcome Live → Reply
-didSays σ number (ok l) = record { session = withLive σ l; answer = A.Did (l .count) (l .total) }
-didSays σ number (refused r) = refusal σ number r
+didSays σ number o = answered σ number (λ (l : Live). record { session = withLive σ l; answer = A.Did (l .count) (l .total) }) o
 
 -- the words es of a line of the kind that stands where it may
 unfoldable pub done : Session → ℕ → Kind → List Event → Reply
 unfolding constantLine predicateLine totalLine discountLine actionLine rewardLine variantLine becomesLine startLine objectsLine isLine trueLine
-    withVocabulary withTotal withDiscount withAction valueRead backupLine cutLine diagramAnswer reduceLine formRead bestRead countRead didLine rows
+    withVocabulary withTotal withDiscount withAction valueRead backupLine cutLine reduceLine formRead bestRead countRead didLine rows
 done σ number K.Constant es = quietly σ number (withNames σ) (constantLine (σ .names) (keyIn (wordAt es 0)))
 done σ number K.Predicate es =
     quietly σ number (withVocabulary σ) (predicateLine (record { names = σ .names; arities = σ .model .arities }) (keyIn (wordAt es 0)) (numberIn (wordAt es 1)))
@@ -229,10 +231,7 @@ done σ number K.True es =
     quietly σ number (withLive σ) (trueLine (σ .model .arities) (σ .names) (σ .live) (keyIn (wordAt es 0)) (numbersIn (drop 1 es)))
 done σ number K.Value es = valueSays σ number (valueRead (σ .model .arities) (σ .live) (σ .held .diagram))
 done σ number K.Backup es = backupSays σ number (backupLine (σ .model) (σ .held))
-done σ number K.Cut es = record {
-  session = withHeld σ (σ .part) (cutLine (σ .model .arities) (σ .held));
-  answer = cutSays number (diagramAnswer (σ .model .arities) (σ .held .diagram));
-}
+done σ number K.Cut es = cutSays σ number (cutLine (σ .model .arities) (σ .held))
 done σ number K.Show es = record { session = σ; answer = A.Show (length (rows (σ .held .diagram))) }
 done σ number K.Reduce es = reduceSays σ number (reduceLine (σ .model .arities) (σ .held))
 done σ number K.Text es = textSays σ number (formRead (σ .model .arities) (σ .names) (σ .held .diagram))
@@ -245,8 +244,7 @@ done σ number K.Bad es = refusal σ number Form
 
 -- behind the place
 abbrev pub placed : Session → ℕ → Outcome (Unit {0}) → Reply → Reply
-placed σ number (ok u) after = after
-placed σ number (refused r) after = refusal σ number r
+placed σ number o after = answered σ number (λ u. after) o
 
 -- line `number` of a text is of a kind and has the words es: 1, 5 (for (best) also 20), then the line's own checks
 unfoldable pub replyTo : Session → ℕ → Kind → List Event → Reply

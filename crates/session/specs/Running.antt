@@ -13,7 +13,8 @@ use Rattle.state.specs.State.{State, meaning}
 use Rattle.state.specs.Lent.{stateOf, constantsBelow, mostObjects}
 use Rattle.minimum.specs.Number.{number}
 use Rattle.elimination.specs.Answer.{isTooLarge}
-use Rattle.refusal.specs.Outcome.{Outcome, ok, andThen}
+use Rattle.refusal.specs.Outcome.{Outcome, ok, refused, andThen}
+use Rattle.cutting.specs.declared.Edge.{Edge}
 use Rattle.cutting.specs.declared.Cut.{Cut}
 use Rattle.cutting.specs.declared.Cut.the-variants as C
 use Rattle.cutting.specs.Cut.{diagramAnswer, cutDiagram, isTrueEdge}
@@ -31,7 +32,7 @@ use Rattle.answers.specs.declared.Answer.the-variants as A
 use Rattle.session.specs.declared.Part.{Part}
 use Rattle.session.specs.declared.Part.the-variants.{Run}
 use Rattle.session.specs.Session.{Names, Live, Session, refuseIf}
-use Rattle.session.specs.Modelling.{weighed}
+use Rattle.session.specs.ModelLines.{weighed}
 
 -- the session with another value diagram and another k, in a part of the text
 abbrev pub withHeld : Session → Part → Held → Session
@@ -78,19 +79,22 @@ backupLine m h = andThen (backup m (h .steps) (h .diagram)) (λ d. ok (record { 
 
 -- ===== (cut) =====
 
--- an accepted cut replaces the value diagram and leaves k
-abbrev pub cutTo : List ℕ → Held → Cut → Held
-cutTo ar h (C.Done k e n) = record { diagram = cutDiagram ar (h .diagram) k (isTrueEdge e); steps = h .steps }
-cutTo ar h (C.Refused r) = h
+-- an accepted cut: the value diagram and k behind it; the row and the edge that went, and the rows left
+pub record CutDone : Type 0 where
+  pub held : Held
+  pub row : ℕ
+  pub edge : Edge
+  pub left : ℕ
 
-unfoldable pub cutLine : List ℕ → Held → Held
+-- it replaces the value diagram and leaves k
+abbrev pub cutTo : List ℕ → Held → Cut → Outcome CutDone
+cutTo ar h (C.Done k e n) =
+    ok (record { held = record { diagram = cutDiagram ar (h .diagram) k (isTrueEdge e); steps = h .steps }; row = k; edge = e; left = n })
+cutTo ar h (C.Refused r) = refused r
+
+unfoldable pub cutLine : List ℕ → Held → Outcome CutDone
 unfolding diagramAnswer cutDiagram
 cutLine ar h = cutTo ar h (diagramAnswer ar (h .diagram))
-
--- cut row, edge, rows left
-abbrev pub cutSays : ℕ → Cut → Answer
-cutSays number (C.Done k e n) = A.Cut k e n
-cutSays number (C.Refused r) = A.Refused r number
 
 -- ===== (reduce) =====
 

@@ -21,33 +21,33 @@ abbrev InPlace : Session → ℕ → List Event → Kind → Reply → Type 0
 InPlace σ number es k y = (s : List ℕ) → es ≡ wordsOf k s → allowed σ (ruleOf k (σ .part)) ≡ ok tt → OneAnswer σ number s k y
 
 module _ (σ : Session) (number : ℕ) (es : List Event) where
-  answered : (k : Kind) (y : Reply) → Answered σ es k y → InPlace σ number es k y
-  answered k y h s w a = accepted a (subst (λ (us : List Event). Answered σ us k y) w h)
+  standing : (k : Kind) (y : Reply) → Answered σ es k y → InPlace σ number es k y
+  standing k y h s w a = accepted a (subst (λ (us : List Event). Answered σ us k y) w h)
 
   cases : Cases σ number es (InPlace σ number es)
   cases = record {
     refusing = λ k r s w a. refusing r refl;
-    forConstant = λ n e. answered K.Constant _ (quiet (n, e, refl) refl);
-    forPredicate = λ v e. answered K.Predicate _ (quiet (v, e, refl) refl);
-    forTotal = λ w e. answered K.Total _ (quiet (w, e, refl) refl);
-    forDiscount = λ q e. answered K.Discount _ (quiet (q, e, refl) refl);
-    forReward = λ τ e. answered K.Reward _ (quiet e refl);
-    forAction = λ n e. answered K.Action _ (quiet (n, e, refl) refl);
-    forVariant = λ τ e. answered K.Variant _ (quiet e refl);
-    forBecomes = λ τ e. answered K.Becomes _ (quiet e refl);
-    forStart = λ τ e. answered K.Start _ (quiet e refl);
-    forObjects = λ l e. answered K.Objects _ (quiet (l, e, refl) refl);
-    forIs = λ l e. answered K.Is _ (quiet (l, e, refl) refl);
-    forTrue = λ l e. answered K.True _ (quiet (l, e, refl) refl);
-    forValue = λ v e. answered K.Value _ (valued v refl e refl refl);
-    forBackup = λ h e. answered K.Backup _ (backed h refl e refl refl);
-    forCut = λ row e n q. answered K.Cut _ (cutting row e n refl q refl refl);
-    forReduce = λ h e. answered K.Reduce _ (reducing h refl e refl refl);
-    forShow = answered K.Show _ (showing refl refl refl);
-    forText = λ n e. answered K.Text _ (printing n refl e refl refl);
-    forBest = λ x e. answered K.Best _ (moving x refl e refl refl);
-    forCount = λ l e. answered K.Count _ (counting l refl e refl refl);
-    forDid = λ l e. answered K.Did _ (replaying l refl e refl refl);
+    forConstant = λ n e. standing K.Constant _ (quiet (n, e, refl) refl);
+    forPredicate = λ v e. standing K.Predicate _ (quiet (v, e, refl) refl);
+    forTotal = λ w e. standing K.Total _ (quiet (w, e, refl) refl);
+    forDiscount = λ q e. standing K.Discount _ (quiet (q, e, refl) refl);
+    forReward = λ τ e. standing K.Reward _ (quiet e refl);
+    forAction = λ n e. standing K.Action _ (quiet (n, e, refl) refl);
+    forVariant = λ τ e. standing K.Variant _ (quiet e refl);
+    forBecomes = λ τ e. standing K.Becomes _ (quiet e refl);
+    forStart = λ τ e. standing K.Start _ (quiet e refl);
+    forObjects = λ l e. standing K.Objects _ (quiet (l, e, refl) refl);
+    forIs = λ l e. standing K.Is _ (quiet (l, e, refl) refl);
+    forTrue = λ l e. standing K.True _ (quiet (l, e, refl) refl);
+    forValue = λ v e. standing K.Value _ (valued v refl e refl refl);
+    forBackup = λ h e. standing K.Backup _ (backed h refl e refl refl);
+    forCut = λ x e. standing K.Cut _ (cutting x refl e refl refl);
+    forReduce = λ h e. standing K.Reduce _ (reducing h refl e refl refl);
+    forShow = standing K.Show _ (showing refl refl refl);
+    forText = λ n e. standing K.Text _ (printing n refl e refl refl);
+    forBest = λ x e. standing K.Best _ (moving x refl e refl refl);
+    forCount = λ l e. standing K.Count _ (counting l refl e refl refl);
+    forDid = λ l e. standing K.Did _ (replaying l refl e refl refl);
   }
 
 pub one-answer : (σ : Session) (number : ℕ) (s : List ℕ) → OneAnswer σ number s (lineKind s) (reply σ number s)
@@ -61,7 +61,7 @@ accepted-none : (σ : Session) (es : List Event) (k : Kind) (y : Reply) (r : Ref
 accepted-none σ es k y r n (quiet p q) e = let z : _≡_ {A = ℕ} 0 1 = cc in omega arith
 accepted-none σ es k y r n (valued v p h t q) e = let z : _≡_ {A = ℕ} 0 1 = cc in omega arith
 accepted-none σ es k y r n (backed h p i t q) e = let z : _≡_ {A = ℕ} 0 1 = cc in omega arith
-accepted-none σ es k y r n (cutting i d m p h t q) e = let z : _≡_ {A = ℕ} 0 1 = cc in omega arith
+accepted-none σ es k y r n (cutting x p h t q) e = let z : _≡_ {A = ℕ} 0 1 = cc in omega arith
 accepted-none σ es k y r n (reducing h p i t q) e = let z : _≡_ {A = ℕ} 0 1 = cc in omega arith
 accepted-none σ es k y r n (showing p t q) e = let z : _≡_ {A = ℕ} 0 1 = cc in omega arith
 accepted-none σ es k y r n (printing m p h t q) e = let z : _≡_ {A = ℕ} 0 1 = cc in omega arith

@@ -8,31 +8,24 @@ use lib.ListN.{length, drop}
 use lib.Dec.{eqb}
 use Rattle.basics.specs.Tests.{Flag, isTrue, isFalse, flag}
 use Rattle.refusal.specs.Outcome.{Outcome, ok, refused}
-use Rattle.cutting.specs.declared.Cut.{Cut}
-use Rattle.cutting.specs.declared.Cut.the-variants as C
-use Rattle.cutting.specs.Cut.{diagramAnswer}
-use Rattle.mdp.specs.Runs.{Held}
-use Rattle.best.specs.Moves.{Move}
-use Rattle.spread.specs.Spread.{Entry}
 use Rattle.text.specs.declared.Kind.{Kind}
 use Rattle.text.specs.declared.Kind.the-variants as K
 use Rattle.text.specs.LineForm.{lineKind}
 use Rattle.events.specs.declared.Event.{Event}
 use Rattle.events.specs.Contents.{keyIn, numberIn, wordAt, keysIn, numbersIn}
 use Rattle.answers.specs.Answers.{answerBytes}
-use Rattle.session.specs.Session.{Live, Session, opening}
+use Rattle.session.specs.Session.{Session, opening}
 use Rattle.session.specs.Place.{ruleOf}
 use Rattle.session.specs.Declaring.{constantLine, predicateLine, totalLine, discountLine, actionLine}
 use Rattle.session.specs.Facts.{objectsLine, isLine, trueLine}
-use Rattle.session.specs.Modelling.{rewardLine, variantLine, becomesLine}
-use Rattle.session.specs.Running.{startLine, valueRead, backupLine, cutSays, reduceLine, formRead, bestRead, countRead}
-use Rattle.session.specs.Replies.{Reply, silent, quietly, valueSays, backupSays, reduceSays, textSays, bestSays, countSays, didSays, allowed, withNames, withLive, withVocabulary}
-use Rattle.session.specs.Replies.{withTotal, withDiscount, withAction, done, placed, replyTo, wordsOf, reply}
+use Rattle.session.specs.ModelLines.{rewardLine, variantLine, becomesLine}
+use Rattle.session.specs.Running.{startLine, valueRead, backupLine, cutLine, reduceLine, formRead, bestRead, countRead}
+use Rattle.session.specs.Replies.{Reply, silent, answered, allowed, done, replyTo, wordsOf, reply}
 use Rattle.session.specs.Texts.{lineFeed, Lines, behindByte, linesOf, hasBytes, Progress, replyBytes}
 use Rattle.session.specs.Texts.{afterLine, afterLines, afterRest, closing, beginning, textRead, textAnswers}
 use Rattle.session_laws.specs.LineAnswers.{didRead}
 use Rattle.session_laws.specs.CaseLaws.{vocabularyOf}
-use Rattle.session_laws.specs.TextReplies.{replies, repliesBytes, restBytes, unspaced, squeezed, numbersFrom, under, replyUnder, renumbered, Spacing}
+use Rattle.session_laws.specs.TextReplies.{replies, repliesBytes, restBytes, unspaced, squeezed, numbersFrom, replyUnder, renumbered, Spacing}
 use Rattle.session_laws.specs.FoldLaws.{text-bytes}
 
 -- ===== One line =====
@@ -49,75 +42,37 @@ silent-bytes σ = refl
 
 -- ===== Under another number a line is answered the same, but for the number of its refusal =====
 
-quietly-under : {A : Type 0} (σ : Session) (i j : ℕ) (f : A → Session) (o : Outcome A) → replyUnder j (quietly σ i f o) ≡ quietly σ j f o
-quietly-under σ i j f (ok a) = refl
-quietly-under σ i j f (refused r) = refl
-
-value-under : (σ : Session) (i j : ℕ) (o : Outcome ℕ) → replyUnder j (valueSays σ i o) ≡ valueSays σ j o
-value-under σ i j (ok v) = refl
-value-under σ i j (refused r) = refl
-
-backup-under : (σ : Session) (i j : ℕ) (o : Outcome Held) → replyUnder j (backupSays σ i o) ≡ backupSays σ j o
-backup-under σ i j (ok h) = refl
-backup-under σ i j (refused r) = refl
-
-reduce-under : (σ : Session) (i j : ℕ) (o : Outcome Held) → replyUnder j (reduceSays σ i o) ≡ reduceSays σ j o
-reduce-under σ i j (ok h) = refl
-reduce-under σ i j (refused r) = refl
-
-text-under : (σ : Session) (i j : ℕ) (o : Outcome ℕ) → replyUnder j (textSays σ i o) ≡ textSays σ j o
-text-under σ i j (ok n) = refl
-text-under σ i j (refused r) = refl
-
-best-under : (σ : Session) (i j : ℕ) (o : Outcome Move) → replyUnder j (bestSays σ i o) ≡ bestSays σ j o
-best-under σ i j (ok x) = refl
-best-under σ i j (refused r) = refl
-
-count-under : (σ : Session) (i j n : ℕ) (o : Outcome (List Entry)) → replyUnder j (countSays σ i n o) ≡ countSays σ j n o
-count-under σ i j n (ok l) = refl
-count-under σ i j n (refused r) = refl
-
-did-under : (σ : Session) (i j : ℕ) (o : Outcome Live) → replyUnder j (didSays σ i o) ≡ didSays σ j o
-did-under σ i j (ok l) = refl
-did-under σ i j (refused r) = refl
-
-cut-under : (i j : ℕ) (c : Cut) → under j (cutSays i c) ≡ cutSays j c
-cut-under i j (C.Done row e n) = refl
-cut-under i j (C.Refused r) = refl
+answered-under : {A : Type 0} (σ : Session) (i j : ℕ) (f g : A → Reply) (o : Outcome A) → ((a : A) → replyUnder j (f a) ≡ g a)
+    → replyUnder j (answered σ i f o) ≡ answered σ j g o
+answered-under σ i j f g (ok a) e = e a
+answered-under σ i j f g (refused r) e = refl
 
 done-under : (σ : Session) (i j : ℕ) (k : Kind) (es : List Event) → replyUnder j (done σ i k es) ≡ done σ j k es
 unfolding done
-done-under σ i j K.Constant es = quietly-under σ i j (withNames σ) (constantLine (σ .names) (keyIn (wordAt es 0)))
-done-under σ i j K.Predicate es =
-    quietly-under σ i j (withVocabulary σ) (predicateLine (vocabularyOf σ) (keyIn (wordAt es 0)) (numberIn (wordAt es 1)))
-done-under σ i j K.Total es = quietly-under σ i j (withTotal σ) (totalLine (numberIn (wordAt es 0)))
-done-under σ i j K.Discount es = quietly-under σ i j (withDiscount σ) (discountLine (numberIn (wordAt es 0)) (numberIn (wordAt es 1)))
-done-under σ i j K.Reward es = quietly-under σ i j (λ τ. τ) (rewardLine σ es)
-done-under σ i j K.Action es = quietly-under σ i j (withAction σ) (actionLine (σ .names) (keyIn (wordAt es 0)) (keysIn (drop 1 es)))
-done-under σ i j K.Variant es = quietly-under σ i j (λ τ. τ) (variantLine σ (keyIn (wordAt es 0)) (drop 1 es))
-done-under σ i j K.Becomes es = quietly-under σ i j (λ τ. τ) (becomesLine σ es)
-done-under σ i j K.Start es = quietly-under σ i j (λ τ. τ) (startLine σ)
-done-under σ i j K.Objects es = quietly-under σ i j (withLive σ) (objectsLine (numberIn (wordAt es 0)))
-done-under σ i j K.Is es = quietly-under σ i j (withLive σ) (isLine (σ .names) (σ .live) (keyIn (wordAt es 0)) (numberIn (wordAt es 1)))
+done-under σ i j K.Constant es = answered-under σ i j _ _ (constantLine (σ .names) (keyIn (wordAt es 0))) (λ n. refl)
+done-under σ i j K.Predicate es = answered-under σ i j _ _ (predicateLine (vocabularyOf σ) (keyIn (wordAt es 0)) (numberIn (wordAt es 1))) (λ v. refl)
+done-under σ i j K.Total es = answered-under σ i j _ _ (totalLine (numberIn (wordAt es 0))) (λ w. refl)
+done-under σ i j K.Discount es = answered-under σ i j _ _ (discountLine (numberIn (wordAt es 0)) (numberIn (wordAt es 1))) (λ q. refl)
+done-under σ i j K.Reward es = answered-under σ i j _ _ (rewardLine σ es) (λ τ. refl)
+done-under σ i j K.Action es = answered-under σ i j _ _ (actionLine (σ .names) (keyIn (wordAt es 0)) (keysIn (drop 1 es))) (λ n. refl)
+done-under σ i j K.Variant es = answered-under σ i j _ _ (variantLine σ (keyIn (wordAt es 0)) (drop 1 es)) (λ τ. refl)
+done-under σ i j K.Becomes es = answered-under σ i j _ _ (becomesLine σ es) (λ τ. refl)
+done-under σ i j K.Start es = answered-under σ i j _ _ (startLine σ) (λ τ. refl)
+done-under σ i j K.Objects es = answered-under σ i j _ _ (objectsLine (numberIn (wordAt es 0))) (λ l. refl)
+done-under σ i j K.Is es = answered-under σ i j _ _ (isLine (σ .names) (σ .live) (keyIn (wordAt es 0)) (numberIn (wordAt es 1))) (λ l. refl)
 done-under σ i j K.True es =
-    quietly-under σ i j (withLive σ) (trueLine (σ .model .arities) (σ .names) (σ .live) (keyIn (wordAt es 0)) (numbersIn (drop 1 es)))
-done-under σ i j K.Value es = value-under σ i j (valueRead (σ .model .arities) (σ .live) (σ .held .diagram))
-done-under σ i j K.Backup es = backup-under σ i j (backupLine (σ .model) (σ .held))
-done-under σ i j K.Cut es =
-    ap (λ a. record { session = done σ j K.Cut es .session; answer = a }) (cut-under i j (diagramAnswer (σ .model .arities) (σ .held .diagram)))
+    answered-under σ i j _ _ (trueLine (σ .model .arities) (σ .names) (σ .live) (keyIn (wordAt es 0)) (numbersIn (drop 1 es))) (λ l. refl)
+done-under σ i j K.Value es = answered-under σ i j _ _ (valueRead (σ .model .arities) (σ .live) (σ .held .diagram)) (λ v. refl)
+done-under σ i j K.Backup es = answered-under σ i j _ _ (backupLine (σ .model) (σ .held)) (λ h. refl)
+done-under σ i j K.Cut es = answered-under σ i j _ _ (cutLine (σ .model .arities) (σ .held)) (λ x. refl)
 done-under σ i j K.Show es = refl
-done-under σ i j K.Reduce es = reduce-under σ i j (reduceLine (σ .model .arities) (σ .held))
-done-under σ i j K.Text es = text-under σ i j (formRead (σ .model .arities) (σ .names) (σ .held .diagram))
-done-under σ i j K.Best es = best-under σ i j (bestRead (σ .model) (σ .live) (σ .held .diagram))
+done-under σ i j K.Reduce es = answered-under σ i j _ _ (reduceLine (σ .model .arities) (σ .held)) (λ h. refl)
+done-under σ i j K.Text es = answered-under σ i j _ _ (formRead (σ .model .arities) (σ .names) (σ .held .diagram)) (λ n. refl)
+done-under σ i j K.Best es = answered-under σ i j _ _ (bestRead (σ .model) (σ .live) (σ .held .diagram)) (λ x. refl)
 done-under σ i j K.Count es =
-    let n = numberIn (wordAt es 0) in
-    count-under σ i j n (countRead (σ .model) (σ .names) (σ .live) (σ .held .diagram) n)
-done-under σ i j K.Did es = did-under σ i j (didRead σ es)
+    answered-under σ i j _ _ (countRead (σ .model) (σ .names) (σ .live) (σ .held .diagram) (numberIn (wordAt es 0))) (λ l. refl)
+done-under σ i j K.Did es = answered-under σ i j _ _ (didRead σ es) (λ l. refl)
 done-under σ i j K.Bad es = refl
-
-placed-under : (σ : Session) (i j : ℕ) (o : Outcome (Unit {0})) (x y : Reply) → replyUnder j x ≡ y → replyUnder j (placed σ i o x) ≡ placed σ j o y
-placed-under σ i j (ok u) x y e = e
-placed-under σ i j (refused r) x y e = refl
 
 pub reply-under : (σ : Session) (i j : ℕ) (s : List ℕ) → replyUnder j (reply σ i s) ≡ reply σ j s
 unfolding reply replyTo
@@ -125,7 +80,7 @@ reply-under σ i j [] = refl
 reply-under σ i j (b ∷ s) =
     let k = lineKind (b ∷ s) in
     let es = wordsOf k (b ∷ s) in
-    placed-under σ i j (allowed σ (ruleOf k (σ .part))) (done σ i k es) (done σ j k es) (done-under σ i j k es)
+    answered-under σ i j _ _ (allowed σ (ruleOf k (σ .part))) (λ u. done-under σ i j k es)
 
 -- so the session behind a line does not depend on its number
 same-session : (σ : Session) (i j : ℕ) (s : List ℕ) → reply σ i s .session ≡ reply σ j s .session

@@ -7,10 +7,6 @@ use Rattle.refusal.specs.declared.Refusal.{Refusal}
 use Rattle.refusal.specs.declared.Refusal.the-variants.{Form}
 use Rattle.diagram.specs.Rows.{rows}
 use Rattle.refusal.specs.Outcome.{Outcome, ok, refused}
-use Rattle.cutting.specs.declared.Edge.{Edge}
-use Rattle.cutting.specs.declared.Cut.{Cut}
-use Rattle.cutting.specs.declared.Cut.the-variants as C
-use Rattle.cutting.specs.Cut.{diagramAnswer}
 use Rattle.mdp.specs.Model.{scale}
 use Rattle.mdp.specs.Runs.{Held}
 use Rattle.best.specs.Moves.{Move}
@@ -25,10 +21,9 @@ use Rattle.session.specs.Place.{ruleOf}
 use Rattle.session.specs.Session.{Names, Live, Session}
 use Rattle.session.specs.Declaring.{Vocabulary, constantLine, predicateLine, totalLine, discountLine, actionLine}
 use Rattle.session.specs.Facts.{objectsLine, isLine, trueLine}
-use Rattle.session.specs.Modelling.{rewardLine, variantLine, becomesLine}
-use Rattle.session.specs.Running.{withHeld, startLine, valueRead, backupLine, cutLine, cutTo, cutSays, reduceLine, formRead, bestRead, bestIs, countRead}
-use Rattle.session.specs.Replies.{Reply, refusal, silent, quietly, valueSays, backupSays, reduceSays, textSays, bestSays, countSays, didSays, allowed, withNames, withLive}
-use Rattle.session.specs.Replies.{withVocabulary, withTotal, withDiscount, withAction, done, placed, replyTo, wordsOf, reply}
+use Rattle.session.specs.ModelLines.{rewardLine, variantLine, becomesLine}
+use Rattle.session.specs.Running.{withHeld, startLine, valueRead, backupLine, CutDone, cutLine, reduceLine, formRead, bestRead, bestIs, countRead}
+use Rattle.session.specs.Replies.{Reply, refusal, silent, answered, allowed, withNames, withLive, withVocabulary, withTotal, withDiscount, withAction, done, placed, replyTo, wordsOf, reply}
 use Rattle.session_laws.specs.LineAnswers.{didRead}
 
 abbrev pub vocabularyOf : Session → Vocabulary
@@ -53,8 +48,8 @@ pub record Cases (σ : Session) (number : ℕ) (es : List Event) (P : Kind → R
       → P K.Value (record { session = σ; answer = A.Value v (σ .held .steps) (scale (σ .model) ^ σ .held .steps) })
   pub forBackup : (h : Held) → backupLine (σ .model) (σ .held) ≡ ok h
       → P K.Backup (record { session = withHeld σ (σ .part) h; answer = A.Backup (h .steps) (length (rows (h .diagram))) })
-  pub forCut : (row : ℕ) (e : Edge) (n : ℕ) → diagramAnswer (σ .model .arities) (σ .held .diagram) ≡ C.Done row e n
-      → P K.Cut (record { session = withHeld σ (σ .part) (cutLine (σ .model .arities) (σ .held)); answer = A.Cut row e n })
+  pub forCut : (x : CutDone) → cutLine (σ .model .arities) (σ .held) ≡ ok x
+      → P K.Cut (record { session = withHeld σ (σ .part) (x .held); answer = A.Cut (x .row) (x .edge) (x .left) })
   pub forReduce : (h : Held) → reduceLine (σ .model .arities) (σ .held) ≡ ok h
       → P K.Reduce (record { session = withHeld σ (σ .part) h; answer = A.Reduce (length (rows (h .diagram))) })
   pub forShow : P K.Show (record { session = σ; answer = A.Show (length (rows (σ .held .diagram))) })
@@ -67,95 +62,42 @@ pub record Cases (σ : Session) (number : ℕ) (es : List Event) (P : Kind → R
 -- ===== By the outcome of a line =====
 
 module _ (σ : Session) (number : ℕ) (P : Reply → Type 0) (r : (t : Refusal) → P (refusal σ number t)) where
-  quietly-by : {A : Type 0} (f : A → Session) (o : Outcome A) → ((a : A) → o ≡ ok a → P (silent (f a))) → P (quietly σ number f o)
-  quietly-by f (ok a) h = h a refl
-  quietly-by f (refused t) h = r t
-
-  value-by : (o : Outcome ℕ)
-      → ((v : ℕ) → o ≡ ok v → P (record { session = σ; answer = A.Value v (σ .held .steps) (scale (σ .model) ^ σ .held .steps) })) → P (valueSays σ number o)
-  value-by (ok v) h = h v refl
-  value-by (refused t) h = r t
-
-  backup-by : (o : Outcome Held)
-      → ((x : Held) → o ≡ ok x → P (record { session = withHeld σ (σ .part) x; answer = A.Backup (x .steps) (length (rows (x .diagram))) }))
-      → P (backupSays σ number o)
-  backup-by (ok x) h = h x refl
-  backup-by (refused t) h = r t
-
-  -- a cut that is refused leaves the value diagram
-  cut-by : (ar : List ℕ) (c : Cut)
-      → ((row : ℕ) (e : Edge) (n : ℕ) → c ≡ C.Done row e n → P (record { session = withHeld σ (σ .part) (cutTo ar (σ .held) c); answer = A.Cut row e n }))
-      → P (record { session = withHeld σ (σ .part) (cutTo ar (σ .held) c); answer = cutSays number c })
-  cut-by ar (C.Done row e n) h = h row e n refl
-  cut-by ar (C.Refused t) h = r t
-
-  reduce-by : (o : Outcome Held)
-      → ((x : Held) → o ≡ ok x → P (record { session = withHeld σ (σ .part) x; answer = A.Reduce (length (rows (x .diagram))) }))
-      → P (reduceSays σ number o)
-  reduce-by (ok x) h = h x refl
-  reduce-by (refused t) h = r t
-
-  text-by : (o : Outcome ℕ) → ((n : ℕ) → o ≡ ok n → P (record { session = σ; answer = A.Text n })) → P (textSays σ number o)
-  text-by (ok n) h = h n refl
-  text-by (refused t) h = r t
-
-  best-by : (o : Outcome Move) → ((x : Move) → o ≡ ok x → P (record { session = σ; answer = bestIs (σ .names) x })) → P (bestSays σ number o)
-  best-by (ok x) h = h x refl
-  best-by (refused t) h = r t
-
-  count-by : (n : ℕ) (o : Outcome (List Entry)) → ((l : List Entry) → o ≡ ok l → P (record { session = σ; answer = A.Count n (length l) }))
-      → P (countSays σ number n o)
-  count-by n (ok l) h = h l refl
-  count-by n (refused t) h = r t
-
-  did-by : (o : Outcome Live) → ((l : Live) → o ≡ ok l → P (record { session = withLive σ l; answer = A.Did (l .count) (l .total) })) → P (didSays σ number o)
-  did-by (ok l) h = h l refl
-  did-by (refused t) h = r t
+  answered-by : {A : Type 0} {f : A → Reply} (o : Outcome A) → ((a : A) → o ≡ ok a → P (f a)) → P (answered σ number f o)
+  answered-by (ok a) h = h a refl
+  answered-by (refused t) h = r t
 
   pub placed-by : (o : Outcome (Unit {0})) (y : Reply) → (o ≡ ok tt → P y) → P (placed σ number o y)
-  placed-by (ok u) y h = h refl
-  placed-by (refused t) y h = r t
+  placed-by o y h = answered-by {f = λ u. y} o (λ u e. h e)
 
 -- ===== By the kind of a line =====
 
 module _ (σ : Session) (number : ℕ) (es : List Event) (P : Kind → Reply → Type 0) (c : Cases σ number es P) where
+  by : {A : Type 0} {f : A → Reply} {o : Outcome A} (k : Kind) → ((a : A) → o ≡ ok a → P k (f a)) → P k (answered σ number f o)
+  by {o = o} k h = answered-by σ number (P k) (c .refusing k) o h
+
   pub done-by : (k : Kind) → P k (done σ number k es)
-  unfolding done cutLine
-  done-by K.Constant =
-      quietly-by σ number (P K.Constant) (c .refusing K.Constant) (withNames σ) (constantLine (σ .names) (keyIn (wordAt es 0))) (c .forConstant)
-  done-by K.Predicate =
-      quietly-by σ number (P K.Predicate) (c .refusing K.Predicate) (withVocabulary σ) (predicateLine (vocabularyOf σ) (keyIn (wordAt es 0)) (numberIn (wordAt es 1))) (c .forPredicate)
-  done-by K.Total =
-      quietly-by σ number (P K.Total) (c .refusing K.Total) (withTotal σ) (totalLine (numberIn (wordAt es 0))) (c .forTotal)
-  done-by K.Discount =
-      quietly-by σ number (P K.Discount) (c .refusing K.Discount) (withDiscount σ) (discountLine (numberIn (wordAt es 0)) (numberIn (wordAt es 1))) (c .forDiscount)
-  done-by K.Reward =
-      quietly-by σ number (P K.Reward) (c .refusing K.Reward) (λ τ. τ) (rewardLine σ es) (c .forReward)
-  done-by K.Action =
-      quietly-by σ number (P K.Action) (c .refusing K.Action) (withAction σ) (actionLine (σ .names) (keyIn (wordAt es 0)) (keysIn (drop 1 es))) (c .forAction)
-  done-by K.Variant =
-      quietly-by σ number (P K.Variant) (c .refusing K.Variant) (λ τ. τ) (variantLine σ (keyIn (wordAt es 0)) (drop 1 es)) (c .forVariant)
-  done-by K.Becomes =
-      quietly-by σ number (P K.Becomes) (c .refusing K.Becomes) (λ τ. τ) (becomesLine σ es) (c .forBecomes)
-  done-by K.Start =
-      quietly-by σ number (P K.Start) (c .refusing K.Start) (λ τ. τ) (startLine σ) (c .forStart)
-  done-by K.Objects =
-      quietly-by σ number (P K.Objects) (c .refusing K.Objects) (withLive σ) (objectsLine (numberIn (wordAt es 0))) (c .forObjects)
-  done-by K.Is =
-      quietly-by σ number (P K.Is) (c .refusing K.Is) (withLive σ) (isLine (σ .names) (σ .live) (keyIn (wordAt es 0)) (numberIn (wordAt es 1))) (c .forIs)
-  done-by K.True =
-      quietly-by σ number (P K.True) (c .refusing K.True) (withLive σ) (trueLine (σ .model .arities) (σ .names) (σ .live) (keyIn (wordAt es 0)) (numbersIn (drop 1 es))) (c .forTrue)
-  done-by K.Value = value-by σ number (P K.Value) (c .refusing K.Value) (valueRead (σ .model .arities) (σ .live) (σ .held .diagram)) (c .forValue)
-  done-by K.Backup = backup-by σ number (P K.Backup) (c .refusing K.Backup) (backupLine (σ .model) (σ .held)) (c .forBackup)
-  done-by K.Cut = cut-by σ number (P K.Cut) (c .refusing K.Cut) (σ .model .arities) (diagramAnswer (σ .model .arities) (σ .held .diagram)) (c .forCut)
+  unfolding done
+  done-by K.Constant = by K.Constant (c .forConstant)
+  done-by K.Predicate = by K.Predicate (c .forPredicate)
+  done-by K.Total = by K.Total (c .forTotal)
+  done-by K.Discount = by K.Discount (c .forDiscount)
+  done-by K.Reward = by K.Reward (c .forReward)
+  done-by K.Action = by K.Action (c .forAction)
+  done-by K.Variant = by K.Variant (c .forVariant)
+  done-by K.Becomes = by K.Becomes (c .forBecomes)
+  done-by K.Start = by K.Start (c .forStart)
+  done-by K.Objects = by K.Objects (c .forObjects)
+  done-by K.Is = by K.Is (c .forIs)
+  done-by K.True = by K.True (c .forTrue)
+  done-by K.Value = by K.Value (c .forValue)
+  done-by K.Backup = by K.Backup (c .forBackup)
+  done-by K.Cut = by K.Cut (c .forCut)
   done-by K.Show = c .forShow
-  done-by K.Reduce = reduce-by σ number (P K.Reduce) (c .refusing K.Reduce) (reduceLine (σ .model .arities) (σ .held)) (c .forReduce)
-  done-by K.Text = text-by σ number (P K.Text) (c .refusing K.Text) (formRead (σ .model .arities) (σ .names) (σ .held .diagram)) (c .forText)
-  done-by K.Best = best-by σ number (P K.Best) (c .refusing K.Best) (bestRead (σ .model) (σ .live) (σ .held .diagram)) (c .forBest)
-  done-by K.Count =
-      let n = numberIn (wordAt es 0) in
-      count-by σ number (P K.Count) (c .refusing K.Count) n (countRead (σ .model) (σ .names) (σ .live) (σ .held .diagram) n) (c .forCount)
-  done-by K.Did = did-by σ number (P K.Did) (c .refusing K.Did) (didRead σ es) (c .forDid)
+  done-by K.Reduce = by K.Reduce (c .forReduce)
+  done-by K.Text = by K.Text (c .forText)
+  done-by K.Best = by K.Best (c .forBest)
+  done-by K.Count = by K.Count (c .forCount)
+  done-by K.Did = by K.Did (c .forDid)
   done-by K.Bad = c .refusing K.Bad Form
 
 -- a line in bytes: blank, refused for its place, or done

@@ -12,7 +12,7 @@ use Rattle.events.specs.declared.Event.{Event}
 use Rattle.session.specs.declared.Part.the-variants.{Run}
 use Rattle.session.specs.Place.{ruleOf}
 use Rattle.session.specs.Session.{Session, opening}
-use Rattle.session.specs.Modelling.{weighed}
+use Rattle.session.specs.ModelLines.{weighed}
 use Rattle.session.specs.Running.{withHeld, startLine}
 use Rattle.session.specs.Replies.{Reply, allowed, withVocabulary, withTotal, withDiscount, wordsOf, reply}
 use Rattle.session.specs.Good.{GoodSession}
@@ -53,7 +53,7 @@ module _ (σ : Session) (g : GoodSession σ) (h : Counted σ) where
     forTrue = λ l e a. h;
     forValue = λ v e a. h;
     forBackup = λ x e a. h;
-    forCut = λ row e n q a. h;
+    forCut = λ x e a. h;
     forReduce = λ x e a. h;
     forShow = λ a. h;
     forText = λ n e a. h;

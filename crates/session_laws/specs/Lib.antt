@@ -67,6 +67,7 @@ pub mod ReplayLaws
 pub mod HeldLaws
 pub mod RunLaws
 pub mod CaseLaws
+pub mod MadeLaws
 pub mod ReplyLaws
 pub mod WholeLaws
 pub mod CountLaws

@@ -8,9 +8,6 @@ use Rattle.refusal.specs.declared.Refusal.{Refusal}
 use Rattle.diagram.specs.Rows.{rows}
 use Rattle.diagram.specs.Sizes.{mostRows}
 use Rattle.refusal.specs.Outcome.{Outcome, ok}
-use Rattle.cutting.specs.declared.Edge.{Edge}
-use Rattle.cutting.specs.declared.Cut.the-variants as C
-use Rattle.cutting.specs.Cut.{diagramAnswer}
 use Rattle.mdp.specs.Model.{scale}
 use Rattle.mdp.specs.Bellman.{bellman}
 use Rattle.mdp.specs.Runs.{Held}
@@ -31,9 +28,9 @@ use Rattle.session.specs.Place.{ruleOf}
 use Rattle.session.specs.Session.{Live, Session}
 use Rattle.session.specs.Declaring.{constantLine, predicateLine, totalLine, discountLine, actionLine}
 use Rattle.session.specs.Facts.{objectsLine, isLine, trueLine}
-use Rattle.session.specs.Modelling.{rewardLine, variantLine, becomesLine}
+use Rattle.session.specs.ModelLines.{rewardLine, variantLine, becomesLine}
 use Rattle.session.specs.Replaying.{didLine}
-use Rattle.session.specs.Running.{withHeld, startLine, stateIn, valueRead, backupLine, cutLine, reduceLine, tablesIn, formRead, bestRead, noKey, bestIs, entriesIn, countRead}
+use Rattle.session.specs.Running.{withHeld, startLine, stateIn, valueRead, backupLine, CutDone, cutLine, reduceLine, tablesIn, formRead, bestRead, noKey, bestIs, entriesIn, countRead}
 use Rattle.session.specs.Replies.{Reply, refusal, silent, isPlaced, allowed, withNames, withLive, withVocabulary, withTotal, withDiscount, withAction, wordsOf}
 use Rattle.session.specs.Texts.{valueForm, tableOf, replyBytes}
 
@@ -79,8 +76,8 @@ pub data Answered (σ : Session) (es : List Event) (k : Kind) (y : Reply) : Type
       → y .session ≡ σ → y .answer ≡ A.Value v (σ .held .steps) (scale (σ .model) ^ σ .held .steps) → Answered σ es k y
   backed : (h : Held) → k ≡ K.Backup → backupLine (σ .model) (σ .held) ≡ ok h
       → y .session ≡ withHeld σ (σ .part) h → y .answer ≡ A.Backup (h .steps) (length (rows (h .diagram))) → Answered σ es k y
-  cutting : (row : ℕ) (e : Edge) (n : ℕ) → k ≡ K.Cut → diagramAnswer (σ .model .arities) (σ .held .diagram) ≡ C.Done row e n
-      → y .session ≡ withHeld σ (σ .part) (cutLine (σ .model .arities) (σ .held)) → y .answer ≡ A.Cut row e n → Answered σ es k y
+  cutting : (x : CutDone) → k ≡ K.Cut → cutLine (σ .model .arities) (σ .held) ≡ ok x
+      → y .session ≡ withHeld σ (σ .part) (x .held) → y .answer ≡ A.Cut (x .row) (x .edge) (x .left) → Answered σ es k y
   reducing : (h : Held) → k ≡ K.Reduce → reduceLine (σ .model .arities) (σ .held) ≡ ok h
       → y .session ≡ withHeld σ (σ .part) h → y .answer ≡ A.Reduce (length (rows (h .diagram))) → Answered σ es k y
   showing : k ≡ K.Show → y .session ≡ σ → y .answer ≡ A.Show (length (rows (σ .held .diagram))) → Answered σ es k y

@@ -21,7 +21,7 @@ use Rattle.session.specs.declared.Part.the-variants.{Model, Run}
 use Rattle.session.specs.declared.Rule.the-variants as R
 use Rattle.session.specs.Place.{ruleOf}
 use Rattle.session.specs.Session.{Session}
-use Rattle.session.specs.Modelling.{rewardLine, variantLine, becomesLine}
+use Rattle.session.specs.ModelLines.{rewardLine, variantLine, becomesLine}
 use Rattle.session.specs.Replies.{Reply, allowed, done, wordsOf, reply}
 use Rattle.session.specs.Good.{GoodSession}
 use Rattle.model_laws.specs.DeclaringLaws.{constant-good, total-good, discount-good, action-good}
@@ -88,7 +88,7 @@ module _ (σ : Session) (g : GoodSession σ) (whole : WholeRows (σ .live .facts
     forTrue = λ l e t. true-good σ g (run K.True refl t) whole _ _ l e;
     forValue = λ v e t. g;
     forBackup = λ h e t. backup-good σ g h e;
-    forCut = λ row e n q t. cut-good σ g;
+    forCut = λ x e t. cut-good σ g x e;
     forReduce = λ h e t. reduce-good σ g h e;
     forShow = λ t. g;
     forText = λ n e t. g;

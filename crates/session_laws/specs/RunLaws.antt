@@ -21,8 +21,8 @@ use Rattle.text.specs.declared.Kind.the-variants as K
 use Rattle.session.specs.declared.Part.the-variants.{Model as ModelPart, Run}
 use Rattle.session.specs.Place.{ruleOf}
 use Rattle.session.specs.Session.{Session}
-use Rattle.session.specs.Modelling.{weighed}
-use Rattle.session.specs.Running.{withHeld, startLine, backupLine, cutTo, cutLine, reduceLine}
+use Rattle.session.specs.ModelLines.{weighed}
+use Rattle.session.specs.Running.{withHeld, startLine, backupLine, CutDone, cutTo, cutLine, reduceLine}
 use Rattle.session.specs.Replies.{isWhole, allowed}
 use Rattle.session.specs.Good.{GoodValue, Begun, GoodSession}
 use Rattle.session_laws.specs.PlaceLaws.{model-run, start-model}
@@ -112,16 +112,16 @@ backup-call m h h′ e = made-taken h (suc (h .steps)) (backup m (h .steps) (h .
 pub backup-good : (σ : Session) → GoodSession σ → (h : Held) → backupLine (σ .model) (σ .held) ≡ ok h → GoodSession (withHeld σ (σ .part) h)
 backup-good σ g h e = rw (← backup-call (σ .model) (σ .held) h e) (called-good σ g aBackup)
 
-cut-taken : (ar : List ℕ) (h : Held) (c : Cut) → taken h (leaves ar (h .diagram) c) (h .steps) ≡ cutTo ar h c
-cut-taken ar h (C.Done k e n) = refl
-cut-taken ar h (C.Refused r) = refl
+cut-taken : (ar : List ℕ) (h : Held) (c : Cut) (x : CutDone) → cutTo ar h c ≡ ok x → taken h (leaves ar (h .diagram) c) (h .steps) ≡ x .held
+cut-taken ar h (C.Done k e n) x p = accepted-ok {P = λ (y : CutDone). taken h (leaves ar (h .diagram) (C.Done k e n)) (h .steps) ≡ y .held} refl .given x p
+cut-taken ar h (C.Refused r) x p = let z : _≡_ {A = ℕ} 0 1 = cc in absurd (omega arith)
 
-cut-call : (m : Model) (h : Held) → call m aCut h ≡ cutLine (m .arities) h
+cut-call : (m : Model) (h : Held) (x : CutDone) → cutLine (m .arities) h ≡ ok x → call m aCut h ≡ x .held
 unfolding call cutLine cutOutcome
-cut-call m h = cut-taken (m .arities) h (diagramAnswer (m .arities) (h .diagram))
+cut-call m h x e = cut-taken (m .arities) h (diagramAnswer (m .arities) (h .diagram)) x e
 
-pub cut-good : (σ : Session) → GoodSession σ → GoodSession (withHeld σ (σ .part) (cutLine (σ .model .arities) (σ .held)))
-cut-good σ g = rw (← cut-call (σ .model) (σ .held)) (called-good σ g aCut)
+pub cut-good : (σ : Session) → GoodSession σ → (x : CutDone) → cutLine (σ .model .arities) (σ .held) ≡ ok x → GoodSession (withHeld σ (σ .part) (x .held))
+cut-good σ g x e = rw (← cut-call (σ .model) (σ .held) x e) (called-good σ g aCut)
 
 reduce-call : (m : Model) (h h′ : Held) → reduceLine (m .arities) h ≡ ok h′ → call m aReduce h ≡ h′
 unfolding reduceLine call

@@ -33,9 +33,9 @@ use Rattle.session.specs.declared.Part.the-variants.{Model as ModelPart, Run}
 use Rattle.session.specs.declared.Rule.the-variants as R
 use Rattle.session.specs.Place.{ruleOf}
 use Rattle.session.specs.Session.{Session, opening}
-use Rattle.session.specs.Modelling.{withReward, rewardRead, rewardLine, withVariant, weightRead, variantLine, truthsNow, withTruth, truthRead, becomesLine, weighed}
-use Rattle.session.specs.Running.{withHeld, startLine, backupLine, cutTo, cutLine, cutSays, reduceLine}
-use Rattle.session.specs.Replies.{Reply, silent, allowed, withVocabulary, withTotal, withDiscount, withAction, backupSays, reduceSays, done, placed, replyTo, wordsOf, reply}
+use Rattle.session.specs.ModelLines.{withReward, rewardRead, rewardLine, withVariant, weightRead, variantLine, truthsNow, withTruth, truthRead, becomesLine, weighed}
+use Rattle.session.specs.Running.{withHeld, startLine, backupLine, cutTo, cutLine, reduceLine}
+use Rattle.session.specs.Replies.{Reply, silent, allowed, withVocabulary, withTotal, withDiscount, withAction, backupSays, cutSays, reduceSays, done, placed, replyTo, wordsOf, reply}
 use Rattle.session.specs.Texts.{hasBytes, Progress, replied, afterLine, afterLines, beginning}
 use Rattle.session_laws.specs.TextReplies.{replies}
 use Rattle.session_laws.specs.TextRuns.{callOf, callThen, callsOf, isRefused, oneIfBackup, acceptedBackup, acceptedBackups, RunOf, HoldsValues}
@@ -134,7 +134,7 @@ module _ (σ : Session) (p : σ .part ≡ Run) (number : ℕ) where
     forTrue = λ l e a c. no-call K.True _ c refl refl refl;
     forValue = λ v e a c. no-call K.Value _ c refl refl refl;
     forBackup = λ h e a c. called c;
-    forCut = λ row e n q a c. called c;
+    forCut = λ x e a c. called c;
     forReduce = λ h e a c. called c;
     forShow = λ a c. no-call K.Show _ c refl refl refl;
     forText = λ n e a c. no-call K.Text _ c refl refl refl;
@@ -173,7 +173,7 @@ module _ (σ : Session) (p : σ .part ≡ Run) (number : ℕ) where
   cut-done es = go (diagramAnswer (σ .model .arities) (σ .held .diagram))
     where
       said : Cut → Reply
-      said c = record { session = withHeld σ (σ .part) (cutTo (σ .model .arities) (σ .held) c); answer = cutSays number c }
+      said c = cutSays σ number (cutTo (σ .model .arities) (σ .held) c)
 
       go : (c : Cut) → Went σ (taken (σ .held) (leaves (σ .model .arities) (σ .held .diagram) c) (σ .held .steps)) (acceptedBackup K.Cut (said c .answer)) (said c .session)
       go (C.Done k e n) = record { part = p; model = refl; held = refl; steps = omega arith }
@@ -280,7 +280,7 @@ module _ (σ : Session) (p : σ .part ≡ ModelPart) (number : ℕ) where
     forTrue = λ l e a. later K.True refl a;
     forValue = λ v e a. later K.Value refl a;
     forBackup = λ h e a. later K.Backup refl a;
-    forCut = λ row e n q a. later K.Cut refl a;
+    forCut = λ x e a. later K.Cut refl a;
     forReduce = λ h e a. later K.Reduce refl a;
     forShow = λ a. later K.Show refl a;
     forText = λ n e a. later K.Text refl a;

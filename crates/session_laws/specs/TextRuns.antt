@@ -20,7 +20,7 @@ use Rattle.answers.specs.declared.Answer.{Answer}
 use Rattle.answers.specs.declared.Answer.the-variants as A
 use Rattle.session.specs.declared.Part.the-variants.{Run}
 use Rattle.session.specs.Session.{Session, opening}
-use Rattle.session.specs.Modelling.{weighed}
+use Rattle.session.specs.ModelLines.{weighed}
 use Rattle.session.specs.Running.{withHeld, stateIn}
 use Rattle.session.specs.Replies.{Reply, silent, reply}
 use Rattle.session.specs.Texts.{afterLines, beginning}

@@ -11,7 +11,7 @@ use Rattle.events.specs.declared.Event.{Event}
 use Rattle.session.specs.declared.Part.the-variants.{Run}
 use Rattle.session.specs.Session.{Live, Session}
 use Rattle.session.specs.Facts.{cleared, objectsLine, placed, isLine}
-use Rattle.session.specs.Modelling.{withReward, rewardRead, rewardLine, withVariant, weightRead, variantLine, truthsNow, withTruth, truthRead, becomesLine, weighed}
+use Rattle.session.specs.ModelLines.{withReward, rewardRead, rewardLine, withVariant, weightRead, variantLine, truthsNow, withTruth, truthRead, becomesLine, weighed}
 use Rattle.session.specs.Running.{withHeld, startLine}
 use Rattle.session.specs.Replies.{Reply, withVocabulary, withTotal, withDiscount, withAction, wordsOf, reply}
 use Rattle.session_laws.specs.StateLaws.{objects-kept, is-kept}
@@ -72,7 +72,7 @@ module _ (σ : Session) (w : WholeRows (σ .live .facts)) where
     forTrue = λ l e. true-whole σ w _ _ l e;
     forValue = λ v e. w;
     forBackup = λ h e. w;
-    forCut = λ row e n q. w;
+    forCut = λ x e. w;
     forReduce = λ h e. w;
     forShow = w;
     forText = λ n e. w;

@@ -54,7 +54,7 @@ module _ (σ : Session) (p : σ .part ≡ Run) (number : ℕ) where
     forTrue = λ l e a. record { part = p; model = refl; live = moved };
     forValue = λ v e a. record { part = p; model = refl; live = λ q. refl };
     forBackup = λ h e a. record { part = p; model = refl; live = λ q. refl };
-    forCut = λ row e n q a. record { part = p; model = refl; live = λ z. refl };
+    forCut = λ x e a. record { part = p; model = refl; live = λ z. refl };
     forReduce = λ h e a. record { part = p; model = refl; live = λ q. refl };
     forShow = λ a. record { part = p; model = refl; live = λ q. refl };
     forText = λ n e a. record { part = p; model = refl; live = λ q. refl };

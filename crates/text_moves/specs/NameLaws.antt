@@ -1,25 +1,21 @@
 -- The name that (best) prints is the one that the text declares of the action, and the objects are as many as its parameters (document 01, section 'Text'; document 02, L9).
 use mathlib.Core.Path.{_≡_, refl, sym, ap, ap₂, _∙_, subst}
-use mathlib.Core.Bool.{Bool, true, false, _||_}
+use mathlib.Core.Bool.{Bool, true, false}
 use mathlib.Core.List.{List, [], _∷_, _++_, map, append-nil, append-assoc}
 use Prim.Native.Nat.{ℕ, zero, suc, _<_}
 use native.Mathlib.Omega.{arith}
 use lib.ListN.{length, getD, drop}
-use lib.Dec.{ltb, leb}
-use Rattle.refusal.specs.declared.Refusal.the-variants.{Name, Range, Space}
+use lib.Dec.{eqb}
 use Rattle.refusal.specs.Outcome.{ok}
-use Rattle.refusal.specs.OutcomeLaws.{accepted-ok, accepted-cond}
-use Rattle.label.specs.Limits.{constantCount, predicateCount, parameterCount, mostPlaces}
 use Rattle.state.specs.Max.{Tuple, none, more}
 use Rattle.regression.specs.Regression.{Truths}
-use Rattle.mdp.specs.Model.{Variant, Action, mostActions}
+use Rattle.mdp.specs.Model.{Variant, Action}
 use Rattle.mdp.specs.Runs.{begin}
 use Rattle.best.specs.Moves.{Move, actionAt}
 use Rattle.words.specs.declared.Key.{Key}
 use Rattle.words.specs.Keys.{keyOf, nameOf}
 use Rattle.words.specs.Words.{IsName}
 use Rattle.words.specs.KeyLaws.{name-of}
-use Rattle.names.specs.Keys.{isAmong}
 use Rattle.text.specs.declared.Kind.{Kind}
 use Rattle.text.specs.declared.Kind.the-variants as K
 use Rattle.text.specs.Line.{Words, isBad, lineBytes, GoodLine}
@@ -34,8 +30,7 @@ use Rattle.answers.specs.Answers.{bestHead, nameField, fields, lineEnd}
 use Rattle.session.specs.declared.Part.the-variants.{Run}
 use Rattle.session.specs.Session.{Session, opening}
 use Rattle.session.specs.Session as S
-use Rattle.session.specs.Declaring.{isDeclared, Vocabulary, constantLine, predicateLine, repeated, actionLine}
-use Rattle.session.specs.Modelling.{withReward, rewardRead, rewardLine, addVariant, withVariant, weightRead, variantLine, lastVariant, truthsNow, withTruth, truthRead, becomesLine, weighed}
+use Rattle.session.specs.ModelLines.{withReward, rewardRead, rewardLine, addVariant, withVariant, weightRead, variantLine, lastVariant, truthsNow, withTruth, truthRead, becomesLine, weighed}
 use Rattle.session.specs.Running.{noKey, withHeld, startLine}
 use Rattle.session.specs.Replies.{Reply, withVocabulary, withTotal, withDiscount, withAction, wordsOf, reply}
 use Rattle.session.specs.Texts.{hasBytes, Progress, replied, afterLine, afterLines, beginning, replyBytes}
@@ -43,6 +38,7 @@ use Rattle.session_laws.specs.TextReplies.{replies}
 use Rattle.session_laws.specs.TextRuns.{isRefused}
 use Rattle.session_laws.specs.RunLaws.{made-by}
 use Rattle.session_laws.specs.CaseLaws.{Cases, vocabularyOf, done-by, reply-by}
+use Rattle.session_laws.specs.MadeLaws.{constant-by, predicate-by, action-by, changeOf}
 use Rattle.text_moves.specs.Claims.{MovesBy, Declares, none as no-line, action, other, NamesMove}
 
 -- ===== What a line does to the actions =====
@@ -52,28 +48,7 @@ abbrev countsOf : Session → List ℕ
 countsOf σ = map (λ (a : Action). a .count) (σ .model .actions)
 
 abbrev isAction : Kind → Bool
-isAction K.Constant = false
-isAction K.Predicate = false
-isAction K.Total = false
-isAction K.Discount = false
-isAction K.Reward = false
-isAction K.Action = true
-isAction K.Variant = false
-isAction K.Becomes = false
-isAction K.Start = false
-isAction K.Objects = false
-isAction K.Is = false
-isAction K.True = false
-isAction K.Value = false
-isAction K.Backup = false
-isAction K.Cut = false
-isAction K.Show = false
-isAction K.Reduce = false
-isAction K.Text = false
-isAction K.Best = false
-isAction K.Count = false
-isAction K.Did = false
-isAction K.Bad = false
+isAction k = eqb (changeOf k) 1
 
 -- an accepted (action ..) adds one; any other line leaves their names and parameters
 data Effect (σ : Session) (es : List Event) (k : Kind) (y : Reply) : Type 0 where
@@ -84,43 +59,28 @@ data Effect (σ : Session) (es : List Event) (k : Kind) (y : Reply) : Type 0 whe
 never : {A : Type 0} → false ≡ true → A
 never e = let z : _≡_ {A = ℕ} 0 1 = cc in absurd (omega arith)
 
-counts-append : (l : List Action) (a : Action) → map (λ (b : Action). b .count) (l ++ (a ∷ [])) ≡ map (λ (b : Action). b .count) l ++ (a .count ∷ [])
-counts-append [] a = refl
-counts-append (b ∷ l) a = ap (λ (t : List ℕ). b .count ∷ t) (counts-append l a)
+pub map-snoc : {A B : Type 0} (f : A → B) (l : List A) (a : A) → map f (l ++ (a ∷ [])) ≡ map f l ++ (f a ∷ [])
+map-snoc f [] a = refl
+map-snoc f (b ∷ l) a = ap (λ t. f b ∷ t) (map-snoc f l a)
 
-counts-variant : (l : List Action) (v : Variant) → map (λ (b : Action). b .count) (addVariant l v) ≡ map (λ (b : Action). b .count) l
+pub counts-variant : (l : List Action) (v : Variant) → map (λ (b : Action). b .count) (addVariant l v) ≡ map (λ (b : Action). b .count) l
 counts-variant [] v = refl
 counts-variant (a ∷ []) v = refl
 counts-variant (a ∷ b ∷ l) v = ap (λ (t : List ℕ). a .count ∷ t) (counts-variant (b ∷ l) v)
 
-counts-truth : (l : List Action) (f : Truths → Truths) → map (λ (b : Action). b .count) (lastVariant l f) ≡ map (λ (b : Action). b .count) l
+pub counts-truth : (l : List Action) (f : Truths → Truths) → map (λ (b : Action). b .count) (lastVariant l f) ≡ map (λ (b : Action). b .count) l
 counts-truth [] f = refl
 counts-truth (a ∷ []) f = refl
 counts-truth (a ∷ b ∷ l) f = ap (λ (t : List ℕ). a .count ∷ t) (counts-truth (b ∷ l) f)
 
-constant-names : (n : S.Names) (k : Key) (m : S.Names) → constantLine n k ≡ ok m → m .actions ≡ n .actions
-unfolding constantLine
-constant-names n k m e =
-    accepted-cond {P = λ (z : S.Names). z .actions ≡ n .actions} (isDeclared n k) Name _ (λ a.
-    accepted-cond (leb constantCount (length (n .constants))) Space _ (λ b.
-    accepted-ok refl)) .given m e
-
-predicate-names : (v : Vocabulary) (k : Key) (a : ℕ) (w : Vocabulary) → predicateLine v k a ≡ ok w → w .names .actions ≡ v .names .actions
-unfolding predicateLine
-predicate-names v k a w e =
-    accepted-cond {P = λ (z : Vocabulary). z .names .actions ≡ v .names .actions} (isDeclared (v .names) k) Name _ (λ b.
-    accepted-cond (ltb mostPlaces a) Range _ (λ c.
-    accepted-cond (leb predicateCount (suc (length (v .names .predicates)))) Space _ (λ d.
-    accepted-ok refl))) .given w e
-
-action-names : (n : S.Names) (k : Key) (ps : List Key) (m : S.Names) → actionLine n k ps ≡ ok m → (m .actions ≡ n .actions ++ (k ∷ [])) × (m .parameters ≡ ps)
-unfolding actionLine
-action-names n k ps m e =
-    accepted-cond {P = λ (z : S.Names). (z .actions ≡ n .actions ++ (k ∷ [])) × (z .parameters ≡ ps)} (isAmong k (n .actions) || repeated [] ps) Name _ (λ a.
-    accepted-cond (ltb parameterCount (length ps) || leb mostActions (length (n .actions))) Space _ (λ b.
-    accepted-ok (refl, refl))) .given m e
-
 module _ (σ : Session) (number : ℕ) (es : List Event) where
+  -- the names of the actions as they were, and with one more
+  abbrev SameNames : S.Names → Type 0
+  SameNames n = n .actions ≡ σ .names .actions
+
+  abbrev Added : S.Names → Type 0
+  Added n = (n .actions ≡ σ .names .actions ++ (keyIn (wordAt es 0) ∷ [])) × (n .parameters ≡ keysIn (drop 1 es))
+
   -- names and counts of a session made from what a line reads
   abbrev Same : Session → Type 0
   Same τ = (τ .names .actions ≡ σ .names .actions) × (countsOf τ ≡ countsOf σ)
@@ -147,14 +107,14 @@ module _ (σ : Session) (number : ℕ) (es : List Event) where
   unfolding withVocabulary withTotal withDiscount withAction
   cases = record {
     refusing = λ k r. keeps (λ q. refl) refl refl;
-    forConstant = λ n e. keeps never (constant-names (σ .names) _ n e) refl;
-    forPredicate = λ v e. keeps never (predicate-names (vocabularyOf σ) _ _ v e) refl;
+    forConstant = λ n e. keeps never (constant-by SameNames (σ .names) _ refl n e) refl;
+    forPredicate = λ v e. keeps never (predicate-by SameNames (vocabularyOf σ) _ _ refl v e) refl;
     forTotal = λ x e. keeps never refl refl;
     forDiscount = λ q e. keeps never refl refl;
     forReward = λ τ e. let s = reward-same τ e in keeps never (s .0) (s .1);
     forAction = λ n e.
-        let s = action-names (σ .names) (keyIn (wordAt es 0)) (keysIn (drop 1 es)) n e in
-        adds refl refl (s .0) (counts-append (σ .model .actions) _ ∙ ap (λ (ps : List Key). countsOf σ ++ (length ps ∷ [])) (s .1));
+        let s = action-by Added (σ .names) (keyIn (wordAt es 0)) (keysIn (drop 1 es)) (refl, refl) n e in
+        adds refl refl (s .0) (map-snoc (λ (a : Action). a .count) (σ .model .actions) _ ∙ ap (λ (ps : List Key). countsOf σ ++ (length ps ∷ [])) (s .1));
     forVariant = λ τ e. let s = variant-same _ _ τ e in keeps never (s .0) (s .1);
     forBecomes = λ τ e. let s = becomes-same τ e in keeps never (s .0) (s .1);
     forStart = λ τ e. let s = start-same τ e in keeps never (s .0) (s .1);
@@ -163,7 +123,7 @@ module _ (σ : Session) (number : ℕ) (es : List Event) where
     forTrue = λ l e. keeps never refl refl;
     forValue = λ v e. keeps never refl refl;
     forBackup = λ h e. keeps never refl refl;
-    forCut = λ row e n q. keeps never refl refl;
+    forCut = λ x e. keeps never refl refl;
     forReduce = λ h e. keeps never refl refl;
     forShow = keeps never refl refl;
     forText = λ n e. keeps never refl refl;

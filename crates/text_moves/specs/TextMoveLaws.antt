@@ -112,7 +112,7 @@ backup-read σ number s k n e = go (lineKind s) (reply σ number s) (one-answer 
       read = r;
       session = t;
     }
-    by-kind i y a (cutting j d m p r t q) e = let z : _≡_ {A = ℕ} 0 1 = cc in absurd (omega arith)
+    by-kind i y a (cutting x p r t q) e = let z : _≡_ {A = ℕ} 0 1 = cc in absurd (omega arith)
     by-kind i y a (reducing h p r t q) e = let z : _≡_ {A = ℕ} 0 1 = cc in absurd (omega arith)
     by-kind i y a (showing p t q) e = let z : _≡_ {A = ℕ} 0 1 = cc in absurd (omega arith)
     by-kind i y a (printing m p r t q) e = let z : _≡_ {A = ℕ} 0 1 = cc in absurd (omega arith)

@@ -1,21 +1,17 @@
 -- What each line does to the names of actions and variants (document 01, section 'Text'; document 02, L10).
 use mathlib.Core.Path.{_≡_, refl, sym, ap, _∙_}
-use mathlib.Core.Bool.{Bool, true, false, _||_}
+use mathlib.Core.Bool.{Bool, true, false, _&&_}
 use mathlib.Core.List.{List, [], _∷_, _++_, map, append-nil, append-assoc}
 use Prim.Native.Nat.{ℕ, suc, _+_}
 use native.Mathlib.Omega.{arith}
 use lib.ListN.{length, drop, length-append}
-use lib.Dec.{ltb, leb}
+use lib.Dec.{leb}
 use Rattle.basics.specs.Members.{clash}
-use Rattle.refusal.specs.declared.Refusal.the-variants.{Name, Range, Space}
 use Rattle.refusal.specs.Outcome.{ok}
-use Rattle.refusal.specs.OutcomeLaws.{accepted-ok, accepted-cond}
-use Rattle.label.specs.Limits.{constantCount, predicateCount, parameterCount, mostPlaces}
 use Rattle.regression.specs.Regression.{Truths}
-use Rattle.mdp.specs.Model.{Variant, Action, mostActions}
+use Rattle.mdp.specs.Model.{Variant, Action}
 use Rattle.mdp.specs.Runs.{begin}
 use Rattle.words.specs.declared.Key.{Key}
-use Rattle.names.specs.Keys.{isAmong}
 use Rattle.text.specs.declared.Kind.{Kind}
 use Rattle.text.specs.declared.Kind.the-variants as K
 use Rattle.text.specs.LineForm.{lineKind}
@@ -24,14 +20,15 @@ use Rattle.events.specs.Contents.{keyIn, wordAt, keysIn}
 use Rattle.session.specs.declared.Part.the-variants.{Run}
 use Rattle.session.specs.Session.{Session}
 use Rattle.session.specs.Session as S
-use Rattle.session.specs.Declaring.{isDeclared, Vocabulary, constantLine, predicateLine, repeated, actionLine}
-use Rattle.session.specs.Modelling.{withReward, rewardRead, rewardLine, addVariant, withVariant, weightRead, variantLine}
-use Rattle.session.specs.Modelling.{lastTruths, lastVariant, truthsNow, withTruth, truthRead, becomesLine, weighed}
+use Rattle.session.specs.ModelLines.{withReward, rewardRead, rewardLine, addVariant, withVariant, weightRead, variantLine}
+use Rattle.session.specs.ModelLines.{lastTruths, lastVariant, truthsNow, withTruth, truthRead, becomesLine, weighed}
 use Rattle.session.specs.Running.{withHeld, startLine}
 use Rattle.session.specs.Replies.{Reply, withVocabulary, withTotal, withDiscount, withAction, wordsOf, reply}
 use Rattle.session_laws.specs.TextRuns.{isRefused}
 use Rattle.session_laws.specs.RunLaws.{made-by}
 use Rattle.session_laws.specs.CaseLaws.{Cases, vocabularyOf, done-by, reply-by}
+use Rattle.session_laws.specs.MadeLaws.{constant-by, predicate-by, action-by, changeOf}
+use Rattle.text_moves.specs.NameLaws.{map-snoc, counts-variant, counts-truth}
 
 -- of the actions of the model: how many parameters, how many variants; the names of all variants, action by action
 abbrev pub countsOf : Session → List ℕ
@@ -65,24 +62,10 @@ add-new [] n = ap (λ (x : ℕ). x ∷ []) (omega arith)
 add-new (a ∷ []) n = ap (λ (x : ℕ). a ∷ x ∷ []) (omega arith)
 add-new (a ∷ b ∷ l) n = ap (λ (t : List ℕ). a ∷ t) (add-new (b ∷ l) n)
 
-map-snoc : {A B : Type 0} (f : A → B) (l : List A) (a : A) → map f (l ++ (a ∷ [])) ≡ map f l ++ (f a ∷ [])
-map-snoc f [] a = refl
-map-snoc f (b ∷ l) a = ap (λ t. f b ∷ t) (map-snoc f l a)
-
-counts-variant : (l : List Action) (v : Variant) → map (λ (b : Action). b .count) (addVariant l v) ≡ map (λ (b : Action). b .count) l
-counts-variant [] v = refl
-counts-variant (a ∷ []) v = refl
-counts-variant (a ∷ b ∷ l) v = ap (λ (t : List ℕ). a .count ∷ t) (counts-variant (b ∷ l) v)
-
 lens-variant : (l : List Action) (v : Variant) → map (λ (b : Action). length (b .variants)) (addVariant l v) ≡ addLast (map (λ (b : Action). length (b .variants)) l) 1
 lens-variant [] v = refl
 lens-variant (a ∷ []) v = ap (λ (x : ℕ). x ∷ []) (length-append (a .variants) (v ∷ []))
 lens-variant (a ∷ b ∷ l) v = ap (λ (t : List ℕ). length (a .variants) ∷ t) (lens-variant (b ∷ l) v)
-
-counts-truth : (l : List Action) (f : Truths → Truths) → map (λ (b : Action). b .count) (lastVariant l f) ≡ map (λ (b : Action). b .count) l
-counts-truth [] f = refl
-counts-truth (a ∷ []) f = refl
-counts-truth (a ∷ b ∷ l) f = ap (λ (t : List ℕ). a .count ∷ t) (counts-truth (b ∷ l) f)
 
 truths-length : (l : List Variant) (f : Truths → Truths) → length (lastTruths l f) ≡ length l
 truths-length [] f = refl
@@ -96,28 +79,7 @@ lens-truth (a ∷ b ∷ l) f = ap (λ (t : List ℕ). length (a .variants) ∷ t
 
 -- the kinds that declare actions and variants
 abbrev pub declaring : Kind → Bool
-declaring K.Constant = false
-declaring K.Predicate = false
-declaring K.Total = false
-declaring K.Discount = false
-declaring K.Reward = false
-declaring K.Action = true
-declaring K.Variant = true
-declaring K.Becomes = false
-declaring K.Start = false
-declaring K.Objects = false
-declaring K.Is = false
-declaring K.True = false
-declaring K.Value = false
-declaring K.Backup = false
-declaring K.Cut = false
-declaring K.Show = false
-declaring K.Reduce = false
-declaring K.Text = false
-declaring K.Best = false
-declaring K.Count = false
-declaring K.Did = false
-declaring K.Bad = false
+declaring k = leb 1 (changeOf k) && leb (changeOf k) 2
 
 -- the names and numbers of τ are those of σ
 pub record Same (σ τ : Session) : Type 0 where
@@ -140,34 +102,14 @@ never e = clash e refl
 same : (σ : Session) → Same σ σ
 same σ = record { actions = refl; counts = refl; lens = refl; all = refl }
 
-constant-names : (n : S.Names) (k : Key) (m : S.Names) → constantLine n k ≡ ok m
-    → (m .actions ≡ n .actions) × (m .earlier ++ m .variants ≡ n .earlier ++ n .variants)
-unfolding constantLine
-constant-names n k m e =
-    accepted-cond {P = λ (z : S.Names). (z .actions ≡ n .actions) × (z .earlier ++ z .variants ≡ n .earlier ++ n .variants)} (isDeclared n k) Name _ (λ a.
-    accepted-cond (leb constantCount (length (n .constants))) Space _ (λ b.
-    accepted-ok (refl, refl))) .given m e
-
-predicate-names : (v : Vocabulary) (k : Key) (a : ℕ) (w : Vocabulary) → predicateLine v k a ≡ ok w
-    → (w .names .actions ≡ v .names .actions) × (w .names .earlier ++ w .names .variants ≡ v .names .earlier ++ v .names .variants)
-unfolding predicateLine
-predicate-names v k a w e =
-    accepted-cond {P = λ (z : Vocabulary). (z .names .actions ≡ v .names .actions) × (z .names .earlier ++ z .names .variants ≡ v .names .earlier ++ v .names .variants)}
-    (isDeclared (v .names) k) Name _ (λ b.
-    accepted-cond (ltb mostPlaces a) Range _ (λ c.
-    accepted-cond (leb predicateCount (suc (length (v .names .predicates)))) Space _ (λ d.
-    accepted-ok (refl, refl)))) .given w e
-
-action-names : (n : S.Names) (k : Key) (ps : List Key) (m : S.Names) → actionLine n k ps ≡ ok m
-    → (m .actions ≡ n .actions ++ (k ∷ [])) × (m .parameters ≡ ps) × (m .earlier ++ m .variants ≡ n .earlier ++ n .variants)
-unfolding actionLine
-action-names n k ps m e =
-    accepted-cond {P = λ (z : S.Names). (z .actions ≡ n .actions ++ (k ∷ [])) × (z .parameters ≡ ps) × (z .earlier ++ z .variants ≡ n .earlier ++ n .variants)}
-    (isAmong k (n .actions) || repeated [] ps) Name _ (λ a.
-    accepted-cond (ltb parameterCount (length ps) || leb mostActions (length (n .actions))) Space _ (λ b.
-    accepted-ok (refl, refl, append-nil (n .earlier ++ n .variants)))) .given m e
-
 module _ (σ : Session) (number : ℕ) (es : List Event) where
+  -- the names of actions and variants as they were, and with one action more
+  abbrev SameNames : S.Names → Type 0
+  SameNames n = (n .actions ≡ σ .names .actions) × (n .earlier ++ n .variants ≡ allOf σ)
+
+  abbrev Added : S.Names → Type 0
+  Added n = (n .actions ≡ σ .names .actions ++ (keyIn (wordAt es 0) ∷ [])) × (n .parameters ≡ keysIn (drop 1 es)) × (n .earlier ++ n .variants ≡ allOf σ)
+
   reward-same : (τ : Session) → rewardLine σ es ≡ ok τ → Same σ τ
   unfolding rewardLine withReward
   reward-same τ e = made-by (Same σ) (rewardRead (σ .names) (σ .model .arities) (σ .rows) es) (withReward σ) (λ d. record { actions = refl; counts = refl; lens = refl; all = refl }) τ e
@@ -198,13 +140,13 @@ module _ (σ : Session) (number : ℕ) (es : List Event) where
   unfolding withVocabulary withTotal withDiscount withAction
   cases = record {
     refusing = λ k r. leaves (λ q. refl) (same σ);
-    forConstant = λ n e. let s = constant-names (σ .names) _ n e in leaves never (record { actions = s .0; counts = refl; lens = refl; all = s .1 });
-    forPredicate = λ v e. let s = predicate-names (vocabularyOf σ) _ _ v e in leaves never (record { actions = s .0; counts = refl; lens = refl; all = s .1 });
+    forConstant = λ n e. let s = constant-by SameNames (σ .names) _ (refl, refl) n e in leaves never (record { actions = s .0; counts = refl; lens = refl; all = s .1 });
+    forPredicate = λ v e. let s = predicate-by SameNames (vocabularyOf σ) _ _ (refl, refl) v e in leaves never (record { actions = s .0; counts = refl; lens = refl; all = s .1 });
     forTotal = λ x e. leaves never (record { actions = refl; counts = refl; lens = refl; all = refl });
     forDiscount = λ q e. leaves never (record { actions = refl; counts = refl; lens = refl; all = refl });
     forReward = λ τ e. leaves never (reward-same τ e);
     forAction = λ n e.
-        let s = action-names (σ .names) (keyIn (wordAt es 0)) (keysIn (drop 1 es)) n e in
+        let s = action-by Added (σ .names) (keyIn (wordAt es 0)) (keysIn (drop 1 es)) (refl, refl, append-nil (allOf σ)) n e in
         an-action refl refl (s .0) (map-snoc (λ (a : Action). a .count) (σ .model .actions) _ ∙ ap (λ (ps : List Key). countsOf σ ++ (length ps ∷ [])) (s .1))
         (map-snoc (λ (a : Action). length (a .variants)) (σ .model .actions) _) (s .2);
     forVariant = λ τ e. let s = variant-more _ _ τ e in a-variant refl refl (s .0) (s .1) (s .2) (s .3);
@@ -215,7 +157,7 @@ module _ (σ : Session) (number : ℕ) (es : List Event) where
     forTrue = λ l e. leaves never (record { actions = refl; counts = refl; lens = refl; all = refl });
     forValue = λ v e. leaves never (same σ);
     forBackup = λ h e. leaves never (record { actions = refl; counts = refl; lens = refl; all = refl });
-    forCut = λ row e n q. leaves never (record { actions = refl; counts = refl; lens = refl; all = refl });
+    forCut = λ x e. leaves never (record { actions = refl; counts = refl; lens = refl; all = refl });
     forReduce = λ h e. leaves never (record { actions = refl; counts = refl; lens = refl; all = refl });
     forShow = leaves never (same σ);
     forText = λ n e. leaves never (same σ);

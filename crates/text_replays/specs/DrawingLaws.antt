@@ -1,22 +1,19 @@
 -- What each line does to the diagrams of the variants (document 01, section 'Text').
 use mathlib.Core.Path.{_≡_, refl, sym, ap, _∙_}
-use mathlib.Core.Bool.{Bool, true, false, not, _||_}
+use mathlib.Core.Bool.{Bool, true, false, not}
 use mathlib.Core.List.{List, [], _∷_, _++_}
-use Prim.Native.Nat.{ℕ, suc, _<_}
+use Prim.Native.Nat.{ℕ, _<_}
 use native.Mathlib.Omega.{arith}
 use lib.ListN.{length, drop}
-use lib.Dec.{ltb, leb}
+use lib.Dec.{leb}
 use borrow.Author.Tests.{leb-true}
 use Rattle.basics.specs.Members.{clash}
-use Rattle.refusal.specs.declared.Refusal.the-variants.{Name, Range, Space}
 use Rattle.refusal.specs.Outcome.{Outcome, ok}
-use Rattle.refusal.specs.OutcomeLaws.{accepted-ok, accepted-next, accepted-cond}
-use Rattle.label.specs.Limits.{constantCount, predicateCount, parameterCount, mostPlaces}
+use Rattle.refusal.specs.OutcomeLaws.{accepted-ok, accepted-next}
 use Rattle.diagram.specs.Diagram.{Diagram}
-use Rattle.mdp.specs.Model.{Action, mostActions}
+use Rattle.mdp.specs.Model.{Action}
 use Rattle.mdp.specs.Runs.{begin}
 use Rattle.words.specs.declared.Key.{Key}
-use Rattle.names.specs.Keys.{isAmong}
 use Rattle.text.specs.declared.Kind.{Kind}
 use Rattle.text.specs.declared.Kind.the-variants as K
 use Rattle.text.specs.LineForm.{lineKind}
@@ -27,39 +24,18 @@ use Rattle.session.specs.declared.Part.the-variants.{Model as ModelPart, Run}
 use Rattle.session.specs.Place.{ruleOf}
 use Rattle.session.specs.Session.{Session}
 use Rattle.session.specs.Session as S
-use Rattle.session.specs.Declaring.{isDeclared, Vocabulary, constantLine, predicateLine, repeated, actionLine}
-use Rattle.session.specs.Modelling.{withReward, rewardRead, rewardLine, addVariant, noTruths, withVariant, weightRead, variantLine}
-use Rattle.session.specs.Modelling.{withTruthAt, lastVariant, truthsNow, withTruth, truthRead, becomesLine, weighed}
+use Rattle.session.specs.ModelLines.{withReward, rewardRead, rewardLine, addVariant, noTruths, withVariant, weightRead, variantLine}
+use Rattle.session.specs.ModelLines.{withTruthAt, lastVariant, truthsNow, withTruth, truthRead, becomesLine, weighed}
 use Rattle.session.specs.Running.{withHeld, startLine}
 use Rattle.session.specs.Replies.{Reply, withVocabulary, withTotal, withDiscount, withAction, unless, allowed, wordsOf, reply}
 use Rattle.session_laws.specs.TextRuns.{isRefused}
 use Rattle.session_laws.specs.RunLaws.{made-by}
 use Rattle.session_laws.specs.CaseLaws.{Cases, vocabularyOf, done-by, reply-by}
+use Rattle.session_laws.specs.MadeLaws.{constant-by, predicate-by, action-by, changeOf}
 
 -- the kinds that change the actions of the model
 abbrev pub drawing : Kind → Bool
-drawing K.Constant = false
-drawing K.Predicate = false
-drawing K.Total = false
-drawing K.Discount = false
-drawing K.Reward = false
-drawing K.Action = true
-drawing K.Variant = true
-drawing K.Becomes = true
-drawing K.Start = false
-drawing K.Objects = false
-drawing K.Is = false
-drawing K.True = false
-drawing K.Value = false
-drawing K.Backup = false
-drawing K.Cut = false
-drawing K.Show = false
-drawing K.Reduce = false
-drawing K.Text = false
-drawing K.Best = false
-drawing K.Count = false
-drawing K.Did = false
-drawing K.Bad = false
+drawing k = leb 1 (changeOf k)
 
 abbrev pub actionsOf : Session → List Action
 actionsOf σ = σ .model .actions
@@ -100,31 +76,16 @@ unfolding allowed
 after-variant σ ModelPart e = leb-true 1 (length (σ .names .variants)) (passes (leb 1 (length (σ .names .variants))) e)
 after-variant σ Run e = let z : _≡_ {A = ℕ} 0 1 = cc in absurd (omega arith)
 
-constant-variants : (n : S.Names) (k : Key) (m : S.Names) → constantLine n k ≡ ok m → m .variants ≡ n .variants
-unfolding constantLine
-constant-variants n k m e =
-    accepted-cond {P = λ (z : S.Names). z .variants ≡ n .variants} (isDeclared n k) Name _ (λ a.
-    accepted-cond (leb constantCount (length (n .constants))) Space _ (λ b.
-    accepted-ok refl)) .given m e
-
-predicate-variants : (v : Vocabulary) (k : Key) (a : ℕ) (w : Vocabulary) → predicateLine v k a ≡ ok w → w .names .variants ≡ v .names .variants
-unfolding predicateLine
-predicate-variants v k a w e =
-    accepted-cond {P = λ (z : Vocabulary). z .names .variants ≡ v .names .variants} (isDeclared (v .names) k) Name _ (λ b.
-    accepted-cond (ltb mostPlaces a) Range _ (λ c.
-    accepted-cond (leb predicateCount (suc (length (v .names .predicates)))) Space _ (λ d.
-    accepted-ok refl))) .given w e
-
-action-variants : (n : S.Names) (k : Key) (ps : List Key) (m : S.Names) → actionLine n k ps ≡ ok m → (m .parameters ≡ ps) × (m .variants ≡ [])
-unfolding actionLine
-action-variants n k ps m e =
-    accepted-cond {P = λ (z : S.Names). (z .parameters ≡ ps) × (z .variants ≡ [])} (isAmong k (n .actions) || repeated [] ps) Name _ (λ a.
-    accepted-cond (ltb parameterCount (length ps) || leb mostActions (length (n .actions))) Space _ (λ b.
-    accepted-ok (refl, refl))) .given m e
-
 module _ (σ : Session) (number : ℕ) (es : List Event) where
   abbrev EffectIn : Kind → Reply → Type 0
   EffectIn k y = allowed σ (ruleOf k (σ .part)) ≡ ok tt → Effect σ es k y
+
+  -- the variants of the last action as they were, and those of a new one
+  abbrev SameVariants : S.Names → Type 0
+  SameVariants n = n .variants ≡ σ .names .variants
+
+  abbrev Begun : S.Names → Type 0
+  Begun n = (n .parameters ≡ keysIn (drop 1 es)) × (n .variants ≡ [])
 
   reward-same : (τ : Session) → rewardLine σ es ≡ ok τ → Same σ τ
   unfolding rewardLine withReward
@@ -156,13 +117,13 @@ module _ (σ : Session) (number : ℕ) (es : List Event) where
   unfolding withVocabulary withTotal withDiscount withAction
   cases = record {
     refusing = λ k r a. leaves (λ q. refl) (record { actions = refl; variants = refl });
-    forConstant = λ n e a. leaves never (record { actions = refl; variants = constant-variants (σ .names) _ n e });
-    forPredicate = λ v e a. leaves never (record { actions = refl; variants = predicate-variants (vocabularyOf σ) _ _ v e });
+    forConstant = λ n e a. leaves never (record { actions = refl; variants = constant-by SameVariants (σ .names) _ refl n e });
+    forPredicate = λ v e a. leaves never (record { actions = refl; variants = predicate-by SameVariants (vocabularyOf σ) _ _ refl v e });
     forTotal = λ x e a. leaves never (record { actions = refl; variants = refl });
     forDiscount = λ q e a. leaves never (record { actions = refl; variants = refl });
     forReward = λ τ e a. leaves never (reward-same τ e);
     forAction = λ n e a.
-        let s = action-variants (σ .names) (keyIn (wordAt es 0)) (keysIn (drop 1 es)) n e in
+        let s = action-by Begun (σ .names) (keyIn (wordAt es 0)) (keysIn (drop 1 es)) (refl, refl) n e in
         an-action refl refl (ap (λ (ps : List Key). actionsOf σ ++ (record { count = length ps; variants = [] } ∷ [])) (s .0)) (s .1);
     forVariant = λ τ e a. let s = variant-more τ e in a-variant refl refl (s .0) (s .1) (s .2);
     forBecomes = λ τ e a. let s = truth-more τ e in a-truth refl refl (s .0) (s .1) (s .2) (after-variant σ (σ .part) a);
@@ -172,7 +133,7 @@ module _ (σ : Session) (number : ℕ) (es : List Event) where
     forTrue = λ l e a. leaves never (record { actions = refl; variants = refl });
     forValue = λ v e a. leaves never (record { actions = refl; variants = refl });
     forBackup = λ h e a. leaves never (record { actions = refl; variants = refl });
-    forCut = λ row e n q a. leaves never (record { actions = refl; variants = refl });
+    forCut = λ x e a. leaves never (record { actions = refl; variants = refl });
     forReduce = λ h e a. leaves never (record { actions = refl; variants = refl });
     forShow = λ a. leaves never (record { actions = refl; variants = refl });
     forText = λ n e a. leaves never (record { actions = refl; variants = refl });

@@ -17,7 +17,7 @@ use Rattle.text.specs.Line.{Words, lineBytes, GoodLine}
 use Rattle.text.specs.Line.Line.{line}
 use Rattle.events.specs.Events.{diagramEvents, wordsEvents}
 use Rattle.session.specs.Session.{Session, opening}
-use Rattle.session.specs.Modelling.{weightRead, truthsNow, truthRead}
+use Rattle.session.specs.ModelLines.{weightRead, truthsNow, truthRead}
 use Rattle.session.specs.Replies.{Reply}
 use Rattle.session_laws.specs.TextReplies.{replies}
 use Rattle.session_laws.specs.TextRuns.{isRefused}

@@ -23,7 +23,7 @@ use Rattle.events.specs.Events.{diagramEvents, wordsEvents}
 use Rattle.events.specs.Contents.{keysIn}
 use Rattle.events.specs.LineEvents.{line-events}
 use Rattle.session.specs.Session.{Session, opening}
-use Rattle.session.specs.Modelling.{weightRead, addVariant, noTruths, withTruthAt, lastTruths, lastVariant}
+use Rattle.session.specs.ModelLines.{weightRead, addVariant, noTruths, withTruthAt, lastTruths, lastVariant}
 use Rattle.session.specs.Replies.{Reply, wordsOf, reply}
 use Rattle.session.specs.Texts.{hasBytes, Progress, replied, afterLine, afterLines, beginning}
 use Rattle.session_laws.specs.TextReplies.{replies}

@@ -26,7 +26,7 @@ use Rattle.session.specs.declared.Rule.the-variants as R
 use Rattle.session.specs.Place.{ruleOf}
 use Rattle.session.specs.Session.{Names, Live, Session, refuseIf}
 use Rattle.session.specs.Facts.{cleared, objectsLine, placed, isLine, isFact, withFact, begunAgain, factLine, predicateOf, trueLine}
-use Rattle.session.specs.Modelling.{withReward, rewardRead, rewardLine, withVariant, weightRead, variantLine, truthsNow, withTruth, truthRead, becomesLine, weighed}
+use Rattle.session.specs.ModelLines.{withReward, rewardRead, rewardLine, withVariant, weightRead, variantLine, truthsNow, withTruth, truthRead, becomesLine, weighed}
 use Rattle.session.specs.Running.{withHeld, startLine}
 use Rattle.session.specs.Replaying.{replayed, didLine}
 use Rattle.session.specs.Replies.{Reply, hasObjects, isPlaced, withVocabulary, withTotal, withDiscount, withAction, allowed, wordsOf, reply}
@@ -71,7 +71,7 @@ module _ (σ : Session) (p : σ .part ≡ Run) (number : ℕ) where
     forTrue = λ l e a. record { part = p; model = refl; names = refl };
     forValue = λ v e a. record { part = p; model = refl; names = refl };
     forBackup = λ h e a. record { part = p; model = refl; names = refl };
-    forCut = λ row e n q a. record { part = p; model = refl; names = refl };
+    forCut = λ x e a. record { part = p; model = refl; names = refl };
     forReduce = λ h e a. record { part = p; model = refl; names = refl };
     forShow = λ a. record { part = p; model = refl; names = refl };
     forText = λ n e a. record { part = p; model = refl; names = refl };
@@ -211,7 +211,7 @@ module _ (σ : Session) (number : ℕ) (es : List Event) where
     forTrue = λ l e a. let h = true-effect _ _ _ _ _ l e in tells refl refl (run K.True refl a) (h .0) (h .1) (h .2) (h .3);
     forValue = λ v e a. stays never refl;
     forBackup = λ h e a. stays never refl;
-    forCut = λ row e n q a. stays never refl;
+    forCut = λ x e a. stays never refl;
     forReduce = λ h e a. stays never refl;
     forShow = λ a. stays never refl;
     forText = λ n e a. stays never refl;

@@ -26,7 +26,7 @@ use Rattle.reading.specs.Head.{headNumber, headArguments}
 use Rattle.build.specs.Machine.{built}
 use Rattle.session.specs.Session.{Names, Session}
 use Rattle.session.specs.Good.{LastAction}
-use Rattle.session.specs.Modelling.{mostModelRows, namesFor, rowsWith, outcomeOf, withTruthAt, lastTruths, lastVariant, truthsOfLast, truthsNow, isSome, truthRead}
+use Rattle.session.specs.ModelLines.{mostModelRows, namesFor, rowsWith, withTruthAt, lastTruths, lastVariant, truthsOfLast, truthsNow, isSome, truthRead}
 use Rattle.session.specs.Texts.{Progress, afterLines, beginning}
 use Rattle.session_laws.specs.TextReplies.{replies}
 use Rattle.session_laws.specs.TextLaws.{Sound, reply-sound, text-sound}
@@ -53,10 +53,10 @@ module _ (f : Truths → Truths) where
 truth-new : (n : Names) (ar : List ℕ) (truths : Truths) (r : ℕ) (es : List Event) → Accepted (λ (t : ℕ × Diagram). isSome (truths (t .0)) ≡ false) (truthRead n ar truths r es)
 unfolding truthRead
 truth-new n ar truths r es =
-    accepted-next (outcomeOf (headNumber (n .predicates) es)) _ (λ p h.
+    accepted-next (headNumber (n .predicates) es) _ (λ p h.
     accepted-cond (isSome (truths p)) Name _ (λ a.
-    accepted-next (outcomeOf (headArguments (getD ar p 0) es)) _ (λ x b.
-    accepted-next (outcomeOf (reading (namesFor n ar Only (n .parameters)) (x .rest) (arguments (x .variables)))) _ (λ y c.
+    accepted-next (headArguments (getD ar p 0) es) _ (λ x b.
+    accepted-next (reading (namesFor n ar Only (n .parameters)) (x .rest) (arguments (x .variables))) _ (λ y c.
     accepted-next (built (y .operations)) _ (λ d e.
     accepted-cond (leafAbove 1 d) Truth _ (λ f.
     accepted-cond (ltb mostModelRows (rowsWith r d)) Space _ (λ g.

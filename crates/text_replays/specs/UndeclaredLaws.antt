@@ -1,7 +1,7 @@
 -- From line to line: no fact of a predicate that is not declared is in hand, and no variant has a truth diagram for one. (true p o ..) and (becomes (p ?a ..) DIAGRAM) take
 -- declared ones alone, (did ..) moves by the truth diagrams (document 01, section 'Text'; document 02, L10).
 use mathlib.Core.Path.{_≡_, refl, sym, ap, subst, _∙_}
-use mathlib.Core.Bool.{Bool, true, false, not, _||_, cond}
+use mathlib.Core.Bool.{Bool, true, false, not, cond}
 use mathlib.Core.List.{List, [], _∷_, _++_, append-nil, append-assoc, List·Memᴰ, List·Memᴰ·head, List·Memᴰ·tail}
 use mathlib.Core.Option.{Option, some, none, Option·map}
 use Prim.Native.Nat.{ℕ, zero, suc, pred, _+_, _*_, _≤_, _<_}
@@ -14,8 +14,8 @@ use Rattle.basics.specs.Tests.{and-left, Cmp, below, equal, above, cmp, Flag, i
 use Rattle.basics.specs.Members.{clash}
 use Rattle.refusal.specs.declared.Refusal.the-variants.{Name, Arity, Range, Truth, Space}
 use Rattle.refusal.specs.Outcome.{ok, Accepted}
-use Rattle.refusal.specs.OutcomeLaws.{accepted-ok, accepted-refused, accepted-then, accepted-next, accepted-cond}
-use Rattle.label.specs.Limits.{constantCount, predicateCount, parameterCount, mostPlaces}
+use Rattle.refusal.specs.OutcomeLaws.{accepted-ok, accepted-then, accepted-next, accepted-cond}
+use Rattle.label.specs.Limits.{predicateCount}
 use Rattle.diagram.specs.Diagram.{Diagram}
 use Rattle.diagram.specs.Words.{upTo}
 use Rattle.state.specs.State.{State, meaning}
@@ -28,7 +28,7 @@ use Rattle.reduction.specs.ListLaws.{in-gather, in-those}
 use Rattle.regression.specs.Regression.{Truths}
 use Rattle.regression.specs.RegressCall.{leafAbove}
 use Rattle.regression.specs.Next.{factAfter, next}
-use Rattle.mdp.specs.Model.{Variant, Action, Model, Every, mostActions}
+use Rattle.mdp.specs.Model.{Variant, Action, Model, Every}
 use Rattle.mdp.specs.Runs.{begin}
 use Rattle.mdp.specs.Bellman.{stateAfter}
 use Rattle.replay.specs.FactLaws.{row-length}
@@ -42,28 +42,28 @@ use Rattle.text.specs.declared.Kind.the-variants as K
 use Rattle.text.specs.Line.{Words}
 use Rattle.text.specs.LineForm.{lineKind}
 use Rattle.events.specs.declared.Event.{Event}
-use Rattle.events.specs.declared.Event.the-variants as E
 use Rattle.reading.specs.declared.Binding.the-variants.{Only}
 use Rattle.reading.specs.Reading.{arguments, reading}
-use Rattle.reading.specs.Reading.Judged.{fine, refused as judged}
-use Rattle.reading.specs.Head.{openedNumber, headNumber, headArguments}
+use Rattle.reading.specs.Head.{headNumber, headArguments}
 use Rattle.build.specs.Machine.{built}
 use Rattle.session.specs.declared.Part.the-variants.{Run}
 use Rattle.session.specs.Session.{Names, Live, Session, refuseIf, opening}
-use Rattle.session.specs.Declaring.{isDeclared, Vocabulary, constantLine, predicateLine, repeated, actionLine}
+use Rattle.session.specs.Declaring.{Vocabulary, constantLine, predicateLine, actionLine}
 use Rattle.session.specs.Facts.{cleared, objectsLine, placed, isLine, isFact, begunAgain, factLine, withFact, predicateOf, trueLine}
-use Rattle.session.specs.Modelling.{mostModelRows, namesFor, rowsWith, outcomeOf, withReward, rewardRead, rewardLine, addVariant, noTruths, withVariant, weightRead, variantLine}
-use Rattle.session.specs.Modelling.{withTruthAt, lastTruths, lastVariant, truthsNow, isSome, withTruth, truthRead, becomesLine, weighed}
+use Rattle.session.specs.ModelLines.{mostModelRows, namesFor, rowsWith, withReward, rewardRead, rewardLine, addVariant, noTruths, withVariant, weightRead, variantLine}
+use Rattle.session.specs.ModelLines.{withTruthAt, lastTruths, lastVariant, truthsNow, isSome, withTruth, truthRead, becomesLine, weighed}
 use Rattle.session.specs.Running.{withHeld, stateIn, startLine}
 use Rattle.session.specs.Replaying.{didOf, replayIn, replayed, didLine}
 use Rattle.session.specs.Replies.{Reply, withVocabulary, withTotal, withDiscount, withAction, wordsOf, reply}
 use Rattle.session.specs.Texts.{hasBytes, Progress, replied, afterLine, afterLines, beginning}
 use Rattle.model_laws.specs.ActionLaws.{every-more, every-mono}
+use Rattle.model_laws.specs.RowLaws.{number-few}
 use Rattle.session_laws.specs.StateLaws.{objects-kept, is-kept}
 use Rattle.session_laws.specs.FactLaws.{WholeRows}
 use Rattle.session_laws.specs.ReplayLaws.{did-read}
 use Rattle.session_laws.specs.RunLaws.{made-by}
 use Rattle.session_laws.specs.CaseLaws.{Cases, vocabularyOf, done-by, reply-by}
+use Rattle.session_laws.specs.MadeLaws.{constant-by, predicate-by, action-by}
 use Rattle.session_laws.specs.TextLaws.{Sound, reply-sound, text-sound}
 use Rattle.text_moves.specs.Claims.{inHand}
 use Rattle.text_replays.specs.Claims.{reached, didIn, nextOf, NoneUndeclared}
@@ -185,34 +185,25 @@ known-more n m h l facts k = record {
 }
 
 module _ (l : List Action) (facts : List ℕ) where
-  constant-known : (n : Names) → Known (length (n .predicates)) l facts → (k : Key) (m : Names) → constantLine n k ≡ ok m → Known (length (m .predicates)) l facts
-  unfolding constantLine
-  constant-known n h k m e =
-      accepted-cond {P = λ (z : Names). Known (length (z .predicates)) l facts} (isDeclared n k) Name _ (λ a.
-      accepted-cond (leb constantCount (length (n .constants))) Space _ (λ b.
-      accepted-ok h)) .given m e
+  abbrev KnownBy : Names → Type 0
+  KnownBy n = Known (length (n .predicates)) l facts
 
-  predicate-known : (v : Vocabulary) → Known (length (v .names .predicates)) l facts → (k : Key) (a : ℕ) (w : Vocabulary) → predicateLine v k a ≡ ok w
-      → Known (length (w .names .predicates)) l facts
-  unfolding predicateLine
+  constant-known : (n : Names) → KnownBy n → (k : Key) (m : Names) → constantLine n k ≡ ok m → KnownBy m
+  constant-known n h k m e = constant-by KnownBy n k h m e
+
+  predicate-known : (v : Vocabulary) → KnownBy (v .names) → (k : Key) (a : ℕ) (w : Vocabulary) → predicateLine v k a ≡ ok w → KnownBy (w .names)
   predicate-known v h k a w e =
       let ps = v .names .predicates in
-      accepted-cond {P = λ (z : Vocabulary). Known (length (z .names .predicates)) l facts} (isDeclared (v .names) k) Name _ (λ b.
-      accepted-cond (ltb mostPlaces a) Range _ (λ c.
-      accepted-cond (leb predicateCount (suc (length (v .names .predicates)))) Space _ (λ d.
-      accepted-ok (known-more (length ps) (length (ps ++ (k ∷ []))) (omega (arith, length-append ps (k ∷ []))) l facts h)))) .given w e
+      predicate-by KnownBy v k a (known-more (length ps) (length (ps ++ (k ∷ []))) (omega (arith, length-append ps (k ∷ []))) l facts h) w e
 
-  action-known : (n : Names) → Known (length (n .predicates)) l facts → (k : Key) (ps : List Key) (m : Names) → actionLine n k ps ≡ ok m
+  action-known : (n : Names) → KnownBy n → (k : Key) (ps : List Key) (m : Names) → actionLine n k ps ≡ ok m
       → Known (length (m .predicates)) (l ++ (record { count = length (m .parameters); variants = [] } ∷ [])) facts
-  unfolding actionLine
   action-known n h k ps m e =
-      accepted-cond {P = λ (z : Names). Known (length (z .predicates)) (l ++ (record { count = length (z .parameters); variants = [] } ∷ [])) facts}
-      (isAmong k (n .actions) || repeated [] ps) Name _ (λ a.
-      accepted-cond (ltb parameterCount (length ps) || leb mostActions (length (n .actions))) Space _ (λ b.
-      accepted-ok (record {
+      action-by (λ z. Known (length (z .predicates)) (l ++ (record { count = length (z .parameters); variants = [] } ∷ [])) facts) n k ps
+      (record {
         truths = every-more (λ (x : Action). Every (TruthsTo (length (n .predicates))) (x .variants)) l (record { count = length ps; variants = [] }) (h .truths) tt;
         rows = h .rows;
-      }))) .given m e
+      }) m e
 
 -- one variant more, without a truth diagram
 added : (n : ℕ) (l : List Action) → ActionsTo n l → (d : Diagram) → ActionsTo n (addVariant l (record { weight = d; truths = noTruths }))
@@ -241,34 +232,17 @@ module _ (n p : ℕ) (few : p ≤ n) (d : Diagram) where
   put-action (a ∷ b ∷ l) h = (h .0, put-action (b ∷ l) (h .1))
 
 -- (becomes (p ?a ..) DIAGRAM) is of a declared predicate
-head-below : (ks : List Key) (es : List Event) → Accepted (λ (p : ℕ). p ≤ length ks) (outcomeOf (headNumber ks es))
-unfolding headNumber openedNumber isAmong
-head-below ks [] = accepted-refused
-head-below ks (E.Name k ∷ es) = accepted-refused
-head-below ks (E.Variable k ∷ es) = accepted-refused
-head-below ks (E.Parameter k ∷ es) = accepted-refused
-head-below ks (E.Minimum k ∷ es) = accepted-refused
-head-below ks (E.Number v ∷ es) = accepted-refused
-head-below ks (E.Equal ∷ es) = accepted-refused
-head-below ks (E.Step ∷ es) = accepted-refused
-head-below ks (E.End ∷ es) = accepted-refused
-head-below ks (E.Holds k i ∷ es) = pick (isAmong k ks) refl
-  where
-    pick : (b : Bool) → isAmong k ks ≡ b → Accepted (λ (p : ℕ). p ≤ length ks) (outcomeOf (cond b (fine (placeOf k ks + 1)) (judged Name)))
-    pick true q = accepted-ok (omega (arith, ltb-true (placeOf k ks) (length ks) q))
-    pick false q = accepted-refused
-
 truth-below : (n : Names) (ar : List ℕ) (truths : Truths) (r : ℕ) (es : List Event) → Accepted (λ (t : ℕ × Diagram). t .0 ≤ length (n .predicates)) (truthRead n ar truths r es)
 unfolding truthRead
 truth-below n ar truths r es =
-    accepted-then (outcomeOf (headNumber (n .predicates) es)) (head-below (n .predicates) es) (λ p h.
+    accepted-next (headNumber (n .predicates) es) _ (λ p h.
     accepted-cond (isSome (truths p)) Name _ (λ a.
-    accepted-next (outcomeOf (headArguments (getD ar p 0) es)) _ (λ x b.
-    accepted-next (outcomeOf (reading (namesFor n ar Only (n .parameters)) (x .rest) (arguments (x .variables)))) _ (λ y c.
+    accepted-next (headArguments (getD ar p 0) es) _ (λ x b.
+    accepted-next (reading (namesFor n ar Only (n .parameters)) (x .rest) (arguments (x .variables))) _ (λ y c.
     accepted-next (built (y .operations)) _ (λ d e.
     accepted-cond (leafAbove 1 d) Truth _ (λ f.
     accepted-cond (ltb mostModelRows (rowsWith r d)) Space _ (λ g.
-    accepted-ok h)))))))
+    accepted-ok (number-few (n .predicates) es p h))))))))
 
 -- ===== Every line =====
 
@@ -362,7 +336,7 @@ module _ (σ : Session) (whole : WholeRows (σ .live .facts)) (w : KnownIn σ) w
     forTrue = true-known _ _;
     forValue = λ v e. w;
     forBackup = λ h e. w;
-    forCut = λ row e i q. w;
+    forCut = λ x e. w;
     forReduce = λ h e. w;
     forShow = w;
     forText = λ i e. w;

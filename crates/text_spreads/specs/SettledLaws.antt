@@ -7,15 +7,15 @@ use Prim.Native.Nat.{ℕ, zero, suc, _≤_}
 use native.Mathlib.Omega.{arith}
 use lib.ListN.{length, getD, replicate, length-append}
 use lib.Seq.{getD-set-other}
-use lib.Dec.{ltb, leb, eqb}
+use lib.Dec.{leb, eqb}
 use borrow.Author.Tests.{ltb-true}
 use Rattle.basics.specs.Tests.{only-first}
 use Rattle.refusal.specs.declared.Refusal.the-variants.{Name, Arity, Range, Space}
 use Rattle.refusal.specs.Outcome.{ok, Accepted}
 use Rattle.refusal.specs.OutcomeLaws.{accepted-ok, accepted-next, accepted-cond}
-use Rattle.label.specs.Limits.{constantCount, predicateCount, parameterCount, mostPlaces}
+use Rattle.label.specs.Limits.{constantCount}
 use Rattle.state.specs.Lent.{factCount, allBelow, mostFacts, factRow}
-use Rattle.mdp.specs.Model.{Model, mostActions}
+use Rattle.mdp.specs.Model.{Model}
 use Rattle.words.specs.declared.Key.{Key}
 use Rattle.names.specs.Keys.{placeOf, isAmong}
 use Rattle.mdp.specs.Runs.{begin}
@@ -24,17 +24,17 @@ use Rattle.text.specs.LineForm.{lineKind}
 use Rattle.events.specs.declared.Event.{Event}
 use Rattle.session.specs.declared.Part.the-variants.{Run}
 use Rattle.session.specs.Session.{Names, Live, Session, refuseIf, opening}
-use Rattle.session.specs.Declaring.{isDeclared, Vocabulary, constantLine, predicateLine, repeated, actionLine}
 use Rattle.replay.specs.Replay.{actionOf, did}
 use Rattle.session.specs.Facts.{cleared, objectsLine, placed, isLine, isFact, begunAgain, factLine, withFact, predicateOf, trueLine}
 use Rattle.session.specs.Replaying.{variantNames, didOf, replayIn, didTo, didLine}
-use Rattle.session.specs.Modelling.{withReward, rewardRead, rewardLine, withVariant, weightRead, variantLine, truthsNow, withTruth, truthRead, becomesLine, weighed}
+use Rattle.session.specs.ModelLines.{withReward, rewardRead, rewardLine, withVariant, weightRead, variantLine, truthsNow, withTruth, truthRead, becomesLine, weighed}
 use Rattle.session.specs.Running.{withHeld, startLine}
 use Rattle.session.specs.Replies.{Reply, withVocabulary, withTotal, withDiscount, withAction, wordsOf, reply}
 use Rattle.session.specs.Texts.{hasBytes, Progress, replied, afterLine, afterLines, beginning}
 use Rattle.session_laws.specs.StateLaws.{objects-kept}
 use Rattle.session_laws.specs.RunLaws.{made-by}
 use Rattle.session_laws.specs.CaseLaws.{Cases, vocabularyOf, done-by, reply-by}
+use Rattle.session_laws.specs.MadeLaws.{constant-by, predicate-by, action-by}
 use Rattle.text_spreads.specs.LineLaws.{Settled}
 
 abbrev Rest : Names → Live → Type 0
@@ -48,28 +48,6 @@ KeepsRest k y = Rest (y .session .names) (y .session .live)
 -- one constant more
 more-rest : (n : Names) (l : Live) → Rest n l → (k : Key) (c : ℕ) → length (n .constants ++ (k ∷ [])) ≤ c → getD (l .constants) c 0 ≡ 0
 more-rest n l h k c i = h c (omega (arith, length-append (n .constants) (k ∷ [])))
-
-constant-rest : (n : Names) (l : Live) → Rest n l → (k : Key) (m : Names) → constantLine n k ≡ ok m → Rest m l
-unfolding constantLine
-constant-rest n l h k m e =
-    accepted-cond {P = λ (z : Names). Rest z l} (isDeclared n k) Name _ (λ a.
-    accepted-cond (leb constantCount (length (n .constants))) Space _ (λ b.
-    accepted-ok (more-rest n l h k))) .given m e
-
-predicate-rest : (v : Vocabulary) (l : Live) → Rest (v .names) l → (k : Key) (a : ℕ) (w : Vocabulary) → predicateLine v k a ≡ ok w → Rest (w .names) l
-unfolding predicateLine
-predicate-rest v l h k a w e =
-    accepted-cond {P = λ (z : Vocabulary). Rest (z .names) l} (isDeclared (v .names) k) Name _ (λ b.
-    accepted-cond (ltb mostPlaces a) Range _ (λ c.
-    accepted-cond (leb predicateCount (suc (length (v .names .predicates)))) Space _ (λ d.
-    accepted-ok h))) .given w e
-
-action-rest : (n : Names) (l : Live) → Rest n l → (k : Key) (ps : List Key) (m : Names) → actionLine n k ps ≡ ok m → Rest m l
-unfolding actionLine
-action-rest n l h k ps m e =
-    accepted-cond {P = λ (z : Names). Rest z l} (isAmong k (n .actions) || repeated [] ps) Name _ (λ a.
-    accepted-cond (ltb parameterCount (length ps) || leb mostActions (length (n .actions))) Space _ (λ b.
-    accepted-ok h)) .given m e
 
 -- ===== Lines of the state =====
 
@@ -116,6 +94,9 @@ did-rest m n l h a v os x e =
 -- ===== Every line =====
 
 module _ (σ : Session) (w : Rest (σ .names) (σ .live)) where
+  abbrev RestOf : Names → Type 0
+  RestOf n = Rest n (σ .live)
+
   reward-rest : (es : List Event) (τ : Session) → rewardLine σ es ≡ ok τ → Rest (τ .names) (τ .live)
   unfolding rewardLine withReward
   reward-rest es τ e =
@@ -145,12 +126,12 @@ module _ (σ : Session) (w : Rest (σ .names) (σ .live)) where
   unfolding withVocabulary withTotal withDiscount withAction
   cases number es = record {
     refusing = λ k r. w;
-    forConstant = constant-rest (σ .names) (σ .live) w _;
-    forPredicate = predicate-rest (vocabularyOf σ) (σ .live) w _ _;
+    forConstant = constant-by RestOf (σ .names) _ (more-rest (σ .names) (σ .live) w _);
+    forPredicate = predicate-by RestOf (vocabularyOf σ) _ _ w;
     forTotal = λ x e. w;
     forDiscount = λ q e. w;
     forReward = reward-rest es;
-    forAction = action-rest (σ .names) (σ .live) w _ _;
+    forAction = action-by RestOf (σ .names) _ _ w;
     forVariant = variant-rest _ _;
     forBecomes = becomes-rest es;
     forStart = start-rest;
@@ -159,7 +140,7 @@ module _ (σ : Session) (w : Rest (σ .names) (σ .live)) where
     forTrue = true-rest (σ .model .arities) (σ .names) (σ .live) w _ _;
     forValue = λ v e. w;
     forBackup = λ h e. w;
-    forCut = λ row e n q. w;
+    forCut = λ x e. w;
     forReduce = λ h e. w;
     forShow = w;
     forText = λ n e. w;

@@ -4,6 +4,7 @@ use mathlib.Core.Bool.{true}
 use mathlib.Core.List.{List, []}
 use Prim.Native.Nat.{ℕ, _+_}
 use lib.ListN.{getD}
+use Rattle.refusal.specs.Outcome.{ok}
 use Rattle.words.specs.Keys.{keyOf}
 use Rattle.words.specs.declared.Key.{Key}
 use Rattle.forms.specs.Tree as T
@@ -15,14 +16,13 @@ use Rattle.diagram.specs.Diagram.{Diagram}
 use Rattle.events.specs.Events.{diagramEvents}
 use Rattle.reading.specs.declared.Binding.the-variants.{Any, None, Only}
 use Rattle.reading.specs.Reading.{Names, Met, arguments as argumentsMet}
-use Rattle.reading.specs.Reading.Judged.{fine}
 use Rattle.reading.specs.Numbering.{metFirst}
 use Rattle.reading.specs.Head.{headKeys}
 use Rattle.reading.specs.Tree.{Reading, resolveDiagram}
 use Rattle.build.specs.Build.{meaning}
 use Rattle.answers.specs.declared.Answer.the-variants as A
 use Rattle.session.specs.Session.{Session}
-use Rattle.session.specs.Modelling.{namesFor, withReward, withVariant, withTruth}
+use Rattle.session.specs.ModelLines.{namesFor, withReward, withVariant, withTruth}
 use Rattle.session.specs.Replies.{reply}
 use Rattle.uniqueness.specs.Meaning.{TheOnly, TheOnlyClosed}
 
@@ -31,7 +31,7 @@ use Rattle.uniqueness.specs.Meaning.{TheOnly, TheOnlyClosed}
 -- the tree t of a diagram, each name resolved in the order of the words, is r; the variables vs of each kind stand before it
 pub record StandsFor (names : Names) (vs : Met) (t : T.Diagram) (r : Reading) : Type 0 where
   pub met : Met
-  pub resolved : resolveDiagram names vs t ≡ fine (record { value = r; met = met })
+  pub resolved : resolveDiagram names vs t ≡ ok (record { value = r; met = met })
 
 -- d is the only diagram that means what t writes. 'A diagram is a number, or (if ATOM DIAGRAM DIAGRAM)': the leaf that the choice c leads to, by the truth of
 -- each ATOM, is build's `meaning` c.
@@ -67,7 +67,7 @@ predicateNumber σ p = placeOf (keyOf p) (σ .names .predicates) + 1
 pub record TruthOf (σ : Session) (p : List ℕ) (vs : List (List ℕ)) (t : T.Diagram) (τ : Session) : Type 0 where
   pub declared : isAmong (keyOf p) (σ .names .predicates) ≡ true
   pub arguments : List Key
-  pub head : headKeys (getD (σ .model .arities) (predicateNumber σ p) 0) vs ≡ fine arguments
+  pub head : headKeys (getD (σ .model .arities) (predicateNumber σ p) 0) vs ≡ ok arguments
   pub diagram : Diagram
   pub behind : τ ≡ withTruth σ (predicateNumber σ p) diagram
   pub is : Writes (namesFor (σ .names) (σ .model .arities) Only (σ .names .parameters)) (argumentsMet arguments) t diagram

@@ -27,23 +27,21 @@ use Rattle.regression.specs.RegressCall.{leafAbove}
 use Rattle.reading.specs.declared.Binding.{Binding}
 use Rattle.reading.specs.declared.Binding.the-variants.{Any, None, Only}
 use Rattle.reading.specs.Reading.{reading, arguments as argumentsMet}
-use Rattle.reading.specs.Reading.Judged.{fine}
 use Rattle.reading.specs.Numbering.{metFirst, rewardReading}
 use Rattle.reading.specs.Head.{Head, openedNumber, headNumber, headArguments, headKeys}
-use Rattle.reading.specs.JudgedLaws.{fine-one, passed, chained}
+use Rattle.reading.specs.OutcomeLaws.{ok-one, passed, chained}
 use Rattle.reading.specs.LineLaws.{becomes-arguments}
 use Rattle.reading.specs.Tree.{NamesFit}
 use Rattle.build.specs.Machine.{mostTests, built, builtClosed}
 use Rattle.answers.specs.declared.Answer.the-variants as A
 use Rattle.session.specs.Place.{ruleOf}
 use Rattle.session.specs.Session.{Names, Session}
-use Rattle.session.specs.Modelling.{mostModelRows, namesFor, rowsWith, rewardRead, rewardLine, weightRead, variantLine}
-use Rattle.session.specs.Modelling.{isSome, truthsNow, withTruth, truthRead, becomesLine}
+use Rattle.session.specs.ModelLines.{mostModelRows, namesFor, rowsWith, rewardRead, rewardLine, weightRead, variantLine}
+use Rattle.session.specs.ModelLines.{isSome, truthsNow, withTruth, truthRead, becomesLine}
 use Rattle.session.specs.Replies.{Reply, quietly, placed, allowed, done, replyTo, wordsOf, reply}
 use Rattle.session.specs.Good.{GoodTables, GoodSession}
 use Rattle.session.specs.Texts.{beginning, afterLines}
 use Rattle.mdp.specs.Model.{mostVariants}
-use Rattle.model_laws.specs.OutcomeLaws.{accepted-read}
 use Rattle.session_laws.specs.TextLaws.{text-sound}
 use Rattle.uniqueness.specs.Text.{Writes, WritesClosed, RewardOf, WeightOf, TruthOf, Accepts, behindLine, OnlyOnes}
 use Rattle.uniqueness.specs.WrittenLaws.{resolved, built-writes, built-closed}
@@ -61,7 +59,7 @@ module _ (n : Names) (ar : List ℕ) (good : GoodTables n ar) (rows : ℕ) where
   reward-written t shallow =
       let fit = names-fit n ar good Any [] (omega arith) in
       let vs = metFirst (diagramEvents t) in
-      accepted-read (reading (namesFor n ar Any []) (diagramEvents t) vs) _ (λ w e.
+      accepted-next (reading (namesFor n ar Any []) (diagramEvents t) vs) _ (λ w e.
       accepted-next (builtClosed ar (w .operations)) _ (λ d m.
       accepted-cond (ltb mostModelRows (rowsWith rows d)) Space _ (λ few.
       accepted-ok (built-closed (namesFor n ar Any []) fit t shallow vs w (resolved (namesFor n ar Any []) fit t vs w e) d m))))
@@ -73,7 +71,7 @@ module _ (n : Names) (ar : List ℕ) (good : GoodTables n ar) (rows : ℕ) where
       let names = namesFor n ar None (n .parameters) in
       let fit = names-fit n ar good None (n .parameters) (good .parameters) in
       accepted-cond (isAmong k (n .variants)) Name _ (λ new.
-      accepted-read (reading names (diagramEvents t) (argumentsMet [])) _ (λ w e.
+      accepted-next (reading names (diagramEvents t) (argumentsMet [])) _ (λ w e.
       accepted-next (built (w .operations)) _ (λ d m.
       accepted-cond (leb mostVariants (length (n .variants)) || ltb mostModelRows (rowsWith rows d)) Space _ (λ few.
       accepted-ok (built-writes names fit t shallow (argumentsMet []) w (resolved names fit t (argumentsMet []) w e) d m)))))
@@ -83,7 +81,7 @@ module _ (n : Names) (ar : List ℕ) (good : GoodTables n ar) (rows : ℕ) where
     declared : isAmong (keyOf (w .0)) (n .predicates) ≡ true
     numbered : placeOf (keyOf (w .0)) (n .predicates) + 1 ≡ p
     arguments : List Key
-    head : headKeys (getD ar p 0) (w .1) ≡ fine arguments
+    head : headKeys (getD ar p 0) (w .1) ≡ ok arguments
     is : Writes (namesFor n ar Only (n .parameters)) (argumentsMet arguments) (w .2) d
 
   truth-written : (truths : Truths) (w : Words K.Becomes) → GoodWords K.Becomes w → T.brackets (w .2) ≤ mostTests
@@ -92,18 +90,18 @@ module _ (n : Names) (ar : List ℕ) (good : GoodTables n ar) (rows : ℕ) where
   truth-written truths w g shallow =
       let names = namesFor n ar Only (n .parameters) in
       let fit = names-fit n ar good Only (n .parameters) (good .parameters) in
-      accepted-read (headNumber (n .predicates) (wordsEvents K.Becomes w)) _ (λ p i.
+      accepted-next (headNumber (n .predicates) (wordsEvents K.Becomes w)) _ (λ p i.
       accepted-cond (isSome (truths p)) Name _ (λ new.
-      accepted-read (headArguments (getD ar p 0) (wordsEvents K.Becomes w)) _ (λ h j.
-      accepted-read (reading names (h .rest) (argumentsMet (h .variables))) _ (λ u e.
+      accepted-next (headArguments (getD ar p 0) (wordsEvents K.Becomes w)) _ (λ h j.
+      accepted-next (reading names (h .rest) (argumentsMet (h .variables))) _ (λ u e.
       accepted-next (built (u .operations)) _ (λ d m.
       accepted-cond (leafAbove 1 d) Truth _ (λ bits.
       accepted-cond (ltb mostModelRows (rowsWith rows d)) Space _ (λ few.
       let q = passed (isAmong (keyOf (w .0)) (n .predicates)) (placeOf (keyOf (w .0)) (n .predicates) + 1) Name p i in
       let c = chained (headKeys (getD ar p 0) (w .1)) _ h
       (sym (becomes-arguments (getD ar p 0) w g) ∙ ap (headArguments (getD ar p 0)) (line-events K.Becomes w g) ∙ j) in
-      let z = fine-one (c .then) in
-      let f : reading names (diagramEvents (w .2)) (argumentsMet (c .first)) ≡ fine u = subst (λ (x : Head). reading names (x .rest) (argumentsMet (x .variables)) ≡ fine u) (sym z) e in
+      let z = ok-one (c .then) in
+      let f : reading names (diagramEvents (w .2)) (argumentsMet (c .first)) ≡ ok u = subst (λ (x : Head). reading names (x .rest) (argumentsMet (x .variables)) ≡ ok u) (sym z) e in
       accepted-ok (record {
         declared = q .0;
         numbered = q .1;
@@ -138,7 +136,7 @@ module _ (σ : Session) (good : GoodSession σ) where
       (λ x b. accepted-ok (record {
         declared = b .declared;
         arguments = b .arguments;
-        head = subst (λ (p : ℕ). headKeys (getD (σ .model .arities) p 0) (w .1) ≡ fine (b .arguments)) (sym (b .numbered)) (b .head);
+        head = subst (λ (p : ℕ). headKeys (getD (σ .model .arities) p 0) (w .1) ≡ ok (b .arguments)) (sym (b .numbered)) (b .head);
         diagram = x .1;
         behind = ap (λ (p : ℕ). withTruth σ p (x .1)) (sym (b .numbered));
         is = b .is;

@@ -19,10 +19,9 @@ use Rattle.events.specs.Events.{diagramEvents}
 use Rattle.reading.specs.Operations.{Op}
 use Rattle.reading.specs.Operations.Op.{step}
 use Rattle.reading.specs.Reading.{Names, Met, Written, isWithin, reading}
-use Rattle.reading.specs.Reading.Judged.{fine}
 use Rattle.reading.specs.Tree.{Reading, resolveDiagram, opsOf, writing, diagramReading, depth, Named, reach, GoodReading, NamesFit}
 use Rattle.reading.specs.Tree.Reading.{number, branch as conditional}
-use Rattle.reading.specs.JudgedLaws.{passed, chained}
+use Rattle.reading.specs.OutcomeLaws.{passed, chained}
 use Rattle.reading.specs.TreeLaws.{reading-diagram}
 use Rattle.reading.specs.GoodLaws.{reading-sound}
 use Rattle.build.specs.Build.{meaning}
@@ -69,7 +68,7 @@ pub record Resolved (names : Names) (vs : Met) (t : T.Diagram) (w : Written) : T
   pub good : GoodReading (names .arities) (Named (length (names .parameters)) (reach (names .binding) vs)) tree
   pub shallow : depth tree ≤ T.brackets t
 
-pub resolved : (names : Names) → NamesFit names → (t : T.Diagram) (vs : Met) (w : Written) → reading names (diagramEvents t) vs ≡ fine w → Resolved names vs t w
+pub resolved : (names : Names) → NamesFit names → (t : T.Diagram) (vs : Met) (w : Written) → reading names (diagramEvents t) vs ≡ ok w → Resolved names vs t w
 unfolding diagramReading
 resolved names fit t vs w e =
     let c = chained (resolveDiagram names vs t) writing w (sym (reading-diagram names t vs) ∙ e) in

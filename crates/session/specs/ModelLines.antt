@@ -12,17 +12,15 @@ use Rattle.diagram.specs.Diagram.{Diagram, leaf}
 use Rattle.diagram.specs.Rows.{rows}
 use Rattle.apply.specs.declared.Operation.the-variants.{Sum}
 use Rattle.apply.specs.declared.Names.the-variants.{Shared}
-use Rattle.refusal.specs.Outcome.{Outcome, ok, refused, andThen}
+use Rattle.refusal.specs.Outcome.{Outcome, ok, andThen}
 use Rattle.paths.specs.Paths.{paths, mostPaths}
 use Rattle.contradiction.specs.Contradiction.{leadsTo}
 use Rattle.regression.specs.Regression.{Truths}
 use Rattle.regression.specs.RegressCall.{leafAbove}
-use Rattle.forms.specs.Tree as T
 use Rattle.events.specs.declared.Event.{Event}
 use Rattle.reading.specs.declared.Binding.{Binding}
 use Rattle.reading.specs.declared.Binding.the-variants.{Any, None, Only}
-use Rattle.reading.specs.Reading.{Names as ReadingNames, Judged, arguments, reading}
-use Rattle.reading.specs.Reading.Judged.{fine, refused as judged}
+use Rattle.reading.specs.Reading.{Names as ReadingNames, arguments, reading}
 use Rattle.reading.specs.Numbering.{rewardReading}
 use Rattle.reading.specs.Head.{headNumber, headArguments}
 use Rattle.build.specs.Machine.{built, builtClosed}
@@ -33,11 +31,6 @@ use Rattle.session.specs.Session.{Names, Session, refuseIf}
 -- all model listings together have 2,048 rows
 abbrev pub mostModelRows : ℕ
 mostModelRows = 2048
-
--- the answer of a word's checks as an outcome
-abbrev pub outcomeOf : {A : Type 0} → Judged A → Outcome A
-outcomeOf (fine a) = ok a
-outcomeOf (judged r) = refused r
 
 -- the names that a diagram of the line may have: a reward has no parameters, and numbers its variables itself; a weight and a truth diagram have those of the
 -- last action
@@ -78,7 +71,7 @@ withReward σ d = record {
 unfoldable pub rewardRead : Names → List ℕ → ℕ → List Event → Outcome Diagram
 unfolding rewardReading builtClosed rows
 rewardRead n ar r es =
-    andThen (outcomeOf (rewardReading (namesFor n ar Any []) es)) (λ w.
+    andThen (rewardReading (namesFor n ar Any []) es) (λ w.
     andThen (builtClosed ar (w .operations)) (λ d.
     refuseIf (ltb mostModelRows (rowsWith r d)) Space
     (ok d)))
@@ -128,7 +121,7 @@ unfoldable pub weightRead : Names → List ℕ → ℕ → Key → List Event �
 unfolding isAmong reading built rows
 weightRead n ar r k es =
     refuseIf (isAmong k (n .variants)) Name
-    (andThen (outcomeOf (reading (namesFor n ar None (n .parameters)) es (arguments []))) (λ w.
+    (andThen (reading (namesFor n ar None (n .parameters)) es (arguments [])) (λ w.
     andThen (built (w .operations)) (λ d.
     refuseIf (leb mostVariants (length (n .variants)) || ltb mostModelRows (rowsWith r d)) Space
     (ok d))))
@@ -192,10 +185,10 @@ withTruth σ p d = record {
 unfoldable pub truthRead : Names → List ℕ → Truths → ℕ → List Event → Outcome (ℕ × Diagram)
 unfolding headNumber headArguments reading built leafAbove rows
 truthRead n ar truths r es =
-    andThen (outcomeOf (headNumber (n .predicates) es)) (λ p.
+    andThen (headNumber (n .predicates) es) (λ p.
     refuseIf (isSome (truths p)) Name
-    (andThen (outcomeOf (headArguments (getD ar p 0) es)) (λ h.
-    andThen (outcomeOf (reading (namesFor n ar Only (n .parameters)) (h .rest) (arguments (h .variables)))) (λ w.
+    (andThen (headArguments (getD ar p 0) es) (λ h.
+    andThen (reading (namesFor n ar Only (n .parameters)) (h .rest) (arguments (h .variables))) (λ w.
     andThen (built (w .operations)) (λ d.
     refuseIf (leafAbove 1 d) Truth
     (refuseIf (ltb mostModelRows (rowsWith r d)) Space
