@@ -34,7 +34,6 @@ use Rattle.steps.specs.GivenLaws.{step-refused}
 use Rattle.planner.specs.Tasks.{ValueTask, ActionTask}
 use Rattle.best.specs.Moves.{move, actionAt as modelAction, firstMove}
 use Rattle.best.specs.Best.{Rated, rated, bindingsBest, movesBest, bestAnswer}
-use Rattle.valuing.specs.Index.{indexedCount, Indexed}
 use Rattle.best_move.specs.declared.Chosen.{Chosen}
 use Rattle.best_move.specs.declared.Chosen.the-variants.{Move as TheMove, Refused as NoMove}
 use Rattle.best_move.specs.declared.Lead.{Lead}
@@ -261,12 +260,12 @@ pub best-answered : (ar listings table : List ℕ) (h : Head) (s : State) (d : D
 unfolding bestAnswer
 best-answered ar listings table h s d x e = e ∙ ap (λ (o : Outcome Rated). chosenAs (andThen o (λ best. ok (best .move)))) (x .is)
 
-module _ {ar listings table : List ℕ} {h : Head} {n : ℕ} {constants facts value work : List ℕ} (t : BestTask ar listings table h n constants facts value work) where
+module _ {ar listings table : List ℕ} {h : Head} {n : ℕ} {constants facts index value work : List ℕ} (t : BestTask ar listings table h n constants facts index value work) where
   pub task-given : ValueGiven ar value (h .numerator) work
   task-given = record { value-listing = t .value-listing; within = t .within; few = laid-numerator (t .laid); work-room = t .work-room }
 
-  pub task-placed : {index : List ℕ} → Indexed ar facts index (indexedCount facts) → Placed ar n constants facts index
-  task-placed i = record { lent = t .lent; objects-few = t .objects-few; indexed = i }
+  pub task-placed : Placed ar n constants facts index
+  task-placed = record { lent = t .lent; objects-few = t .objects-few; indexed = t .indexed }
 
   pub task-answerable : {o : Outcome Rated} {r : Led} → Rates n o r → Answerable n r
   task-answerable x = record { some = state-some ar n constants facts (t .lent); objects-few = t .objects-few; leading = x .leading }

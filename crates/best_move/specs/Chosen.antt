@@ -10,6 +10,7 @@ use Rattle.diagram.specs.Words.{isListing}
 use Rattle.diagram.specs.Listing.{diagramOf}
 use Rattle.state.specs.State.{meaning}
 use Rattle.state.specs.Lent.{stateOf, isState, mostObjects}
+use Rattle.fact_index.specs.Index.{indexedCount, Indexed}
 use Rattle.regression.specs.Parameters.{Within}
 use Rattle.model.specs.declared.Head.{Head}
 use Rattle.model.specs.Layout.{modelOf, Laid}
@@ -27,10 +28,11 @@ chosenAs (refused r) = Refused r
 abbrev pub bestChosen : List ℕ → List ℕ → List ℕ → Head → ℕ → List ℕ → List ℕ → List ℕ → Chosen
 bestChosen ar listings table h n constants facts value = chosenAs (bestAnswer (modelOf ar listings table h) (stateOf ar n constants facts) (diagramOf value))
 
--- a model laid out in words, a state, a value's listing without parameters, and room for the rows formed
-pub record BestTask (ar listings table : List ℕ) (h : Head) (n : ℕ) (constants facts value work : List ℕ) : Type 0 where
+-- a model laid out in words, a state with the index of its facts, a value's listing without parameters, and room for the rows formed
+pub record BestTask (ar listings table : List ℕ) (h : Head) (n : ℕ) (constants facts index value work : List ℕ) : Type 0 where
   pub laid : Laid ar listings table h
   pub lent : isState ar n constants facts ≡ true
+  pub indexed : Indexed ar facts index (indexedCount facts index)
   pub objects-few : n ≤ mostObjects
   pub value-listing : isListing ar value ≡ true
   pub within : Within 0 (meaning ar (diagramOf value))

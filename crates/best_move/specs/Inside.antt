@@ -25,7 +25,7 @@ use Rattle.steps.specs.declared.Step.{Step}
 use Rattle.steps.specs.declared.Step.the-variants.{Rows, Refused as Stopped}
 use Rattle.best.specs.Moves.{move, firstMove}
 use Rattle.best.specs.Best.{Rated, rated, better, bindingValue, bindingsBest, movesBest}
-use Rattle.valuing.specs.Index.{indexedCount, Indexed}
+use Rattle.fact_index.specs.Index.{indexedCount, Indexed}
 use Rattle.best_move.specs.declared.Lead.{Lead}
 use Rattle.best_move.specs.declared.Led.{Led}
 use Rattle.best_move.specs.declared.Led.the-variants.{To, Refused}
@@ -125,7 +125,7 @@ pub record Tupled (n c : ℕ) : Type 0 where
 pub record Placed (ar : List ℕ) (n : ℕ) (constants facts index : List ℕ) : Type 0 where
   pub lent : isState ar n constants facts ≡ true
   pub objects-few : n ≤ mostObjects
-  pub indexed : Indexed ar facts index (indexedCount facts)
+  pub indexed : Indexed ar facts index (indexedCount facts index)
 
 -- a value's listing without parameters, the discount's numerator, and room for the rows formed
 pub record ValueGiven (ar value : List ℕ) (g : ℕ) (work : List ℕ) : Type 0 where

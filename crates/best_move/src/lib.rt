@@ -106,7 +106,7 @@ fn try_binding(
     n: u64,
     constants: &[u64],
     facts: &[u64],
-    index: &[u16],
+    index: &[u64],
     few: bool,
     plain: bool,
     action: usize,
@@ -160,7 +160,7 @@ fn try_bindings(
     n: u64,
     constants: &[u64],
     facts: &[u64],
-    index: &[u16],
+    index: &[u64],
     few: bool,
     plain: bool,
     action: usize,
@@ -214,7 +214,7 @@ fn try_sum(
     n: u64,
     constants: &[u64],
     facts: &[u64],
-    index: &[u16],
+    index: &[u64],
     action: usize,
     count: usize,
     l: Lead,
@@ -267,7 +267,7 @@ fn try_action(
     n: u64,
     constants: &[u64],
     facts: &[u64],
-    index: &[u16],
+    index: &[u64],
     value: &[u64],
     l: Lead,
     work: &mut [u64],
@@ -323,7 +323,7 @@ fn try_actions(
     n: u64,
     constants: &[u64],
     facts: &[u64],
-    index: &[u16],
+    index: &[u64],
     value: &[u64],
     work: &mut [u64],
 ) -> Led
@@ -388,7 +388,7 @@ fn answered(r: Led, n: u64) -> Chosen
     }
 }
 
-// The first move whose sum is highest, or the first refusal met: the facts' index is made once.
+// The first move whose sum is highest, or the first refusal met.
 pub fn best_move(
     arities: &[u64],
     listings: &[u64],
@@ -397,14 +397,13 @@ pub fn best_move(
     n: u64,
     constants: &[u64],
     facts: &[u64],
+    index: &[u64],
     value: &[u64],
     work: &mut [u64],
 ) -> Chosen
-    requires { ⌜ BestTask (now arities) (now listings) (now table) head n (now constants) (now facts) (now value) (now work) ⌝ }
+    requires { ⌜ BestTask (now arities) (now listings) (now table) head n (now constants) (now facts) (now index) (now value) (now work) ⌝ }
     ensures { λ r. ⌜ r ≡ bestChosen (now (arities .entry)) (now (listings .entry)) (now (table .entry)) head n (now (constants .entry)) (now (facts .entry)) (now (value .entry)) ⌝ }
 {
-    let mut index = [0u16; valuing::INDEX_WORDS];
-    valuing::index_facts(arities, facts, &mut index);
     let r = try_actions(
         arities,
         listings,
@@ -413,7 +412,7 @@ pub fn best_move(
         n,
         constants,
         facts,
-        &index,
+        index,
         value,
         work,
     );

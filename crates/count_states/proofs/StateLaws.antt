@@ -27,7 +27,7 @@ use Rattle.spread.specs.Spread.{Entry, entryWords, entries, values, valueIn, en
 use Rattle.spread.specs.ChoiceLaws.{arities-few}
 use Rattle.spread.specs.LeafLaws.{entries-few}
 use Rattle.spread.specs.LentChoiceLaws.{lent-choice, choice-good, spread-many}
-use Rattle.valuing.specs.Index.{Indexed, indexedCount, Clean}
+use Rattle.fact_index.specs.Index.{Indexed, indexedCount, Clean}
 use Rattle.valuing.specs.Search.{Topping, Tops}
 use Rattle.valuing.specs.Walks.{boundNumber, boundAnswer, climbed, isFew, Prepared}
 use Rattle.valuing.specs.WalkLaws.{topping-room, prepared}
@@ -43,7 +43,7 @@ use Rattle.count_states.proofs.EntryLaws.{entries-step, entries-count, 
 
 -- ===== value_facts =====
 pub facts-prepared : {ar ws high : List ℕ} {few plain : Bool} {n : ℕ} {constants facts index : List ℕ} → Valuing ar ws high few plain n → isState ar n constants facts ≡ true
-    → Indexed ar facts index (indexedCount facts) → Prepared ar ws high n constants facts index
+    → Indexed ar facts index (indexedCount facts index) → Prepared ar ws high n constants facts index
 facts-prepared {ar} {ws} {high} {few} {plain} {n} {constants} {facts} {index} v s i = prepared ar ws high n constants facts index (v .listed) s (v .places) (v .tops) i
 
 -- ===== value_choice =====

@@ -8,7 +8,7 @@ ghost use lib.Seq.{paste};
 ghost use Rattle.state.specs.Lent.{factWords, isState};
 ghost use Rattle.spread.specs.Ground.{ground, rowsOf, groundFacts, groundCount};
 ghost use Rattle.spread.specs.Spread.{spread};
-ghost use Rattle.valuing.specs.Index.{Clean};
+ghost use Rattle.fact_index.specs.Index.{Clean};
 ghost use Rattle.valuing.specs.Walks.{boundAnswer, climbed};
 ghost use Rattle.count_states.specs.Counted.{Countable, Counts};
 ghost use Rattle.count_states.specs.Facts.{Power, digits, firstFacts, Declared, Fillable, Writable, Follow, picked, Choosing, Chosen};
@@ -227,7 +227,7 @@ fn value_facts(
     n: u64,
     constants: &[u64],
     facts: &[u64],
-    index: &mut [u16],
+    index: &mut [u64],
 ) -> Valued
     requires { ⌜ Valuing (now arities) (now words) (now high) few plain n ⌝ }
     requires { ⌜ isState (now arities) n (now constants) (now facts) ≡ true ⌝ }
@@ -235,7 +235,7 @@ fn value_facts(
     ensures { λ r. ⌜ r ≡ climbed 0 (boundAnswer (now (arities .entry)) (now (words .entry)) n (now (constants .entry)) (now (facts .entry)) []) ⌝ }
     ensures { λ _. ⌜ Clean (now (index .exit)) ⌝ }
 {
-    valuing::index_facts(arities, facts, index);
+    fact_index::index_facts(arities, facts, index);
     let r = valuing::climb(
         arities,
         words,
@@ -249,7 +249,7 @@ fn value_facts(
         plain,
         0,
     );
-    valuing::clear_index(arities, facts, index);
+    fact_index::clear_index(arities, facts, index);
     r
 }
 
@@ -266,7 +266,7 @@ fn value_choice(
     g: usize,
     c: u64,
     facts: &mut [u64],
-    index: &mut [u16],
+    index: &mut [u64],
 ) -> Valued
     requires { ⌜ Valuing (now arities) (now words) (now high) few plain n ⌝ }
     requires { ⌜ Choices (now arities) n (now constants) (now rows) g (now facts) ⌝ }
@@ -300,7 +300,7 @@ fn count_choices(
     rows: &[u64],
     g: usize,
     facts: &mut [u64],
-    index: &mut [u16],
+    index: &mut [u64],
     table: &mut [u64],
 ) -> Counted
     requires { ⌜ Valuing (now arities) (now words) (now high) few plain n ⌝ }
@@ -358,7 +358,7 @@ pub fn count(
     let few = valuing::is_few(arities, words, n);
     let plain = valuing::is_plain(arities, words);
     let mut facts = [0u64; GROUND * FACT_WORDS];
-    let mut index = [0u16; valuing::INDEX_WORDS];
+    let mut index = [0u64; fact_index::BUCKETS + GROUND];
     count_choices(
         arities,
         words,

@@ -23,6 +23,7 @@ use Rattle.state.specs.Lent.{factWords, factCount, stateOf, isState, mostFacts}
 use Rattle.minimum.specs.NumberLaws.{number-is, number-attained}
 use Rattle.elimination.specs.Answer.{isTooLarge}
 use Rattle.elimination.specs.AnswerLaws.{lent-good}
+use Rattle.fact_index.specs.Index.{indexedCount, Indexed}
 use Rattle.regression.specs.Next.{next}
 use Rattle.mdp.specs.BackupLaws.{bound-none}
 use Rattle.mdp.specs.Bellman.{stateAfter}
@@ -104,7 +105,7 @@ module _ (ar ws : List ℕ) (n : ℕ) (constants facts next : List ℕ) (count :
   unfolding rewardsMet
   met-both {x} h {after} {r} a q = q ∙ ap (addedTo x) a ∙ sym (ap (λ (v : Valued). bothAdded v (boundAnswer ar ws n constants next [])) (sym b ∙ h))
 
-module _ {ar ws : List ℕ} {n : ℕ} {constants facts next : List ℕ} (w : Rewarding ar ws n constants facts next) (count : ℕ) where
+module _ {ar ws : List ℕ} {n : ℕ} {constants facts index next : List ℕ} (w : Rewarding ar ws n constants facts index next) (count : ℕ) where
   pub met-ready : {before : Valued} → before ≡ rewardBefore ar ws n constants facts count → {x : ℕ} → before ≡ Value x
       → {after : Valued} → after ≡ boundAnswer ar ws n constants next [] → (x ≤ highestValue) × Low highestValue after
   met-ready b {x} e q = (before-low ar ws n constants facts (w .listed) (w .lent) count b .few x e, answer-low ar ws n constants next (w .listed) (w .lent-next) q)
@@ -209,12 +210,14 @@ after-size : (ar listings table : List ℕ) (place n : ℕ) (constants facts os 
 unfolding afterAt stateAfter stateOf next
 after-size ar listings table place n constants facts os = refl
 
-pub move-rewarding : {ar listings table : List ℕ} {place n : ℕ} {constants facts os out : List ℕ} → Moving ar listings table place n constants facts os out
-    → (ws : List ℕ) → isListing ar ws ≡ true → {x : Facts} {out′ : List ℕ} → NextFacts (factsOf ar (afterAt ar listings table place n constants facts os)) x out′
-    → {k : ℕ} → x ≡ Rows k → Rewarding ar ws n constants facts (take (k * factWords) out′)
-move-rewarding {ar} {listings} {table} {place} {n} {constants} {facts} {os} m ws listed w {k} q = record {
+pub move-rewarding : {ar listings table : List ℕ} {place n : ℕ} {constants facts index os out : List ℕ} → Moving ar listings table place n constants facts os out
+    → (ws : List ℕ) → isListing ar ws ≡ true → Indexed ar facts index (indexedCount facts index)
+    → {x : Facts} {out′ : List ℕ} → NextFacts (factsOf ar (afterAt ar listings table place n constants facts os)) x out′
+    → {k : ℕ} → x ≡ Rows k → Rewarding ar ws n constants facts index (take (k * factWords) out′)
+move-rewarding {ar} {listings} {table} {place} {n} {constants} {facts} {index} {os} m ws listed i w {k} q = record {
   listed = listed;
   lent = m .lent;
+  indexed = i;
   lent-next = subst (λ (l : List ℕ). isState ar n constants l ≡ true) (sym (w .written k q))
       (facts-lent ar (m .arities) n constants facts (m .lent) (afterAt ar listings table place n constants facts os) (after-size ar listings table place n constants facts os));
 }

@@ -83,8 +83,8 @@ every-get P [] i x h e = absurd (omega arith)
 every-get P (y ∷ l) zero x h e = e .0
 every-get P (y ∷ l) (suc i) x h e = every-get P l i x (omega arith) (e .1)
 
-module _ {ar listings table : List ℕ} {h : Head} {a v n : ℕ} {constants facts : List ℕ} {count total : ℕ} {os out : List ℕ}
-    (t : StepTask ar listings table h a v n constants facts count total os out) where
+module _ {ar listings table : List ℕ} {h : Head} {a v n : ℕ} {constants facts index : List ℕ} {count total : ℕ} {os out : List ℕ}
+    (t : StepTask ar listings table h a v n constants facts index count total os out) where
   abbrev M : Model
   M = modelOf ar listings table h
 
@@ -146,13 +146,14 @@ module _ {ar listings table : List ℕ} {h : Head} {a v n : ℕ} {constants fact
 
   -- ===== 21 =====
 
-  pub weight-ready : WeighingAt ar listings table (variantPlace a v) n constants facts os
+  pub weight-ready : WeighingAt ar listings table (variantPlace a v) n constants facts index os
   weight-ready = record {
     room = place-inside;
     inside = laid-variant .inside;
     weighing = record {
       listed = laid-variant .weight;
       lent = t .lent;
+      indexed = t .indexed;
       objects = t .objects;
       few = weight-few (good-action .few) good-variant n (weightWords listings table (variantPlace a v)) weight-is;
       plain = weight-plain (good-action .few) good-variant (weightWords listings table (variantPlace a v)) weight-is;

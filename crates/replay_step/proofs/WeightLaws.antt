@@ -102,9 +102,9 @@ module _ (ar ws : List ℕ) (n : ℕ) (constants facts os : List ℕ) (few : isF
 
 -- ===== The words of a weight =====
 
-pub weighing-part : {ar listings table : List ℕ} {place n : ℕ} {constants facts os : List ℕ} → WeighingAt ar listings table place n constants facts os
-    → {ws : List ℕ} → ws ≡ weightWords listings table place → Weighing ar ws n constants facts os
-weighing-part {ar} {n = n} {constants} {facts} {os} w e = subst (λ (x : List ℕ). Weighing ar x n constants facts os) (sym e) (w .weighing)
+pub weighing-part : {ar listings table : List ℕ} {place n : ℕ} {constants facts index os : List ℕ} → WeighingAt ar listings table place n constants facts index os
+    → {ws : List ℕ} → ws ≡ weightWords listings table place → Weighing ar ws n constants facts index os
+weighing-part {ar} {n = n} {constants} {facts} {index} {os} w e = subst (λ (x : List ℕ). Weighing ar x n constants facts index os) (sym e) (w .weighing)
 
 pub weightless-part : (ar : List ℕ) (n : ℕ) (constants facts os : List ℕ) {ws us : List ℕ} → ws ≡ us → {x : Bool} → x ≡ eqb (boundNumber ar ws n constants facts os) 0
     → x ≡ eqb (boundNumber ar us n constants facts os) 0

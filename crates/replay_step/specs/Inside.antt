@@ -13,29 +13,32 @@ use Rattle.diagram.specs.Variables.{isPlain}
 use Rattle.state.specs.Lent.{factWords, factCount, isState, allBelow, mostFacts}
 use Rattle.state.specs.declared.Valued.{Valued}
 use Rattle.state.specs.declared.Valued.the-variants.{Value, Refused as Unvalued}
+use Rattle.fact_index.specs.Index.{indexedCount, Indexed}
 use Rattle.model.specs.Layout.{variantWords, weightWords}
 use Rattle.valuing.specs.Walks.{boundAnswer, isFew}
 use Rattle.replay_step.specs.declared.Stepped.{Stepped}
 use Rattle.replay_step.specs.declared.Stepped.the-variants.{Done, Refused}
 
--- a weight's listing, which has no variable of either kind, a state, and objects for the parameters
-pub record Weighing (ar ws : List ℕ) (n : ℕ) (constants facts os : List ℕ) : Type 0 where
+-- a weight's listing, which has no variable of either kind, a state with the index of its facts, and objects for the parameters
+pub record Weighing (ar ws : List ℕ) (n : ℕ) (constants facts index os : List ℕ) : Type 0 where
   pub listed : isListing ar ws ≡ true
   pub lent : isState ar n constants facts ≡ true
+  pub indexed : Indexed ar facts index (indexedCount facts index)
   pub objects : allBelow n os ≡ true
   pub few : isFew ar n ws ≡ true
   pub plain : isPlain ar (diagramOf ws) ≡ true
 
 -- the weight of the variant at a place of the table
-pub record WeighingAt (ar listings table : List ℕ) (place n : ℕ) (constants facts os : List ℕ) : Type 0 where
+pub record WeighingAt (ar listings table : List ℕ) (place n : ℕ) (constants facts index os : List ℕ) : Type 0 where
   pub room : place + variantWords ≤ length table
   pub inside : getD table place 0 + getD table (place + 1) 0 ≤ length listings
-  pub weighing : Weighing ar (weightWords listings table place) n constants facts os
+  pub weighing : Weighing ar (weightWords listings table place) n constants facts index os
 
--- the reward's listing, a state and the next one
-pub record Rewarding (ar ws : List ℕ) (n : ℕ) (constants facts next : List ℕ) : Type 0 where
+-- the reward's listing, a state with the index of its facts, and the next one
+pub record Rewarding (ar ws : List ℕ) (n : ℕ) (constants facts index next : List ℕ) : Type 0 where
   pub listed : isListing ar ws ≡ true
   pub lent : isState ar n constants facts ≡ true
+  pub indexed : Indexed ar facts index (indexedCount facts index)
   pub lent-next : isState ar n constants next ≡ true
 
 -- the reward before the move, on the first line

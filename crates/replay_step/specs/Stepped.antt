@@ -7,6 +7,7 @@ use lib.ListN.{length, take}
 use Rattle.refusal.specs.Outcome.{Outcome, ok, refused}
 use Rattle.diagram.specs.Sizes.{highestValue}
 use Rattle.state.specs.Lent.{factWords, isState, allBelow, mostFacts}
+use Rattle.fact_index.specs.Index.{indexedCount, Indexed}
 use Rattle.model.specs.declared.Head.{Head}
 use Rattle.model.specs.Layout.{variantsOf, modelOf, Laid}
 use Rattle.replay.specs.Replay.{Did, Replay, did}
@@ -25,12 +26,13 @@ abbrev pub lentStep : List ℕ → List ℕ → List ℕ → Head → ℕ → �
 lentStep ar listings table h a v n constants facts count total os =
     did (modelOf ar listings table h) (lentReplay n constants facts count total) (lentDid a v os)
 
--- a model laid out in words, one of its variants, a state with count and total, objects of it, and room for the facts of the next state
-pub record StepTask (ar listings table : List ℕ) (h : Head) (a v n : ℕ) (constants facts : List ℕ) (count total : ℕ) (os out : List ℕ) : Type 0 where
+-- a model laid out in words, one of its variants, a state with the index of its facts, count and total, objects of it, and room for the facts of the next state
+pub record StepTask (ar listings table : List ℕ) (h : Head) (a v n : ℕ) (constants facts index : List ℕ) (count total : ℕ) (os out : List ℕ) : Type 0 where
   pub laid : Laid ar listings table h
   pub action : a < h .actions
   pub variant : v < variantsOf table a
   pub lent : isState ar n constants facts ≡ true
+  pub indexed : Indexed ar facts index (indexedCount facts index)
   pub count-few : count ≤ highestValue
   pub total-few : total ≤ highestValue
   pub objects : allBelow n os ≡ true

@@ -11,6 +11,7 @@ ghost use lib.Dec.{eqb};
 ghost use Rattle.diagram.specs.Sizes.{highestValue};
 ghost use Rattle.diagram.specs.Words.{isListing};
 ghost use Rattle.state.specs.Lent.{isState};
+ghost use Rattle.fact_index.specs.Index.{indexedCount, Indexed};
 ghost use Rattle.model.specs.Layout.{weightWords};
 ghost use Rattle.replay.specs.Replay.{factsOf};
 ghost use Rattle.next_facts.specs.NextCall.{afterAt, Moving};
@@ -31,15 +32,14 @@ fn is_weightless(
     n: u64,
     constants: &[u64],
     facts: &[u64],
+    index: &[u64],
     objects: &[u64],
 ) -> bool
-    requires { ⌜ Weighing (now arities) (now words) n (now constants) (now facts) (now objects) ⌝ }
+    requires { ⌜ Weighing (now arities) (now words) n (now constants) (now facts) (now index) (now objects) ⌝ }
     ensures { λ r. ⌜ r ≡ eqb (boundNumber (now (arities .entry)) (now (words .entry)) n (now (constants .entry)) (now (facts .entry)) (now (objects .entry))) 0 ⌝ }
 {
     let mut high = [0u64; diagram::ROWS];
     valuing::tops(words, &mut high);
-    let mut index = [0u16; valuing::INDEX_WORDS];
-    valuing::index_facts(arities, facts, &mut index);
     let v = valuing::climb(
         arities,
         words,
@@ -47,7 +47,7 @@ fn is_weightless(
         n,
         constants,
         facts,
-        &index,
+        index,
         objects,
         true,
         true,
@@ -68,15 +68,24 @@ fn has_no_weight(
     n: u64,
     constants: &[u64],
     facts: &[u64],
+    index: &[u64],
     objects: &[u64],
 ) -> bool
-    requires { ⌜ WeighingAt (now arities) (now listings) (now table) place n (now constants) (now facts) (now objects) ⌝ }
+    requires { ⌜ WeighingAt (now arities) (now listings) (now table) place n (now constants) (now facts) (now index) (now objects) ⌝ }
     ensures { λ r. ⌜ r ≡ eqb (boundNumber (now (arities .entry)) (weightWords (now (listings .entry)) (now (table .entry)) place) n (now (constants .entry)) (now (facts .entry))
         (now (objects .entry))) 0 ⌝ }
 {
     let start = table[place] as usize;
     let end = start + table[place + 1] as usize;
-    is_weightless(arities, &listings[start..end], n, constants, facts, objects)
+    is_weightless(
+        arities,
+        &listings[start..end],
+        n,
+        constants,
+        facts,
+        index,
+        objects,
+    )
 }
 
 // The reward before the move: it counts on the first line only.
@@ -86,16 +95,19 @@ fn reward_before(
     n: u64,
     constants: &[u64],
     facts: &[u64],
+    index: &[u64],
     count: u64,
 ) -> Valued
     requires { ⌜ isListing (now arities) (now words) ≡ true ⌝ }
     requires { ⌜ isState (now arities) n (now constants) (now facts) ≡ true ⌝ }
+    requires { ⌜ Indexed (now arities) (now facts) (now index) (indexedCount (now facts) (now index)) ⌝ }
     ensures { λ r. ⌜ r ≡ rewardBefore (now (arities .entry)) (now (words .entry)) n (now (constants .entry)) (now (facts .entry)) count ⌝ }
 {
     if count != 0 {
         return Valued::Value(0);
     }
-    valuing::value_listed(arities, words, n, constants, facts)
+    let mut high = [0u64; diagram::ROWS];
+    valuing::value_indexed(arities, words, n, constants, facts, index, &mut high)
 }
 
 // One reward more.
@@ -117,13 +129,14 @@ fn rewards_met(
     n: u64,
     constants: &[u64],
     facts: &[u64],
+    index: &[u64],
     next: &[u64],
     count: u64,
 ) -> Valued
-    requires { ⌜ Rewarding (now arities) (now words) n (now constants) (now facts) (now next) ⌝ }
+    requires { ⌜ Rewarding (now arities) (now words) n (now constants) (now facts) (now index) (now next) ⌝ }
     ensures { λ r. ⌜ r ≡ rewardsMet (now (arities .entry)) (now (words .entry)) n (now (constants .entry)) (now (facts .entry)) (now (next .entry)) count ⌝ }
 {
-    let before = reward_before(arities, words, n, constants, facts, count);
+    let before = reward_before(arities, words, n, constants, facts, index, count);
     let Valued::Value(x) = before else {
         return before;
     };
@@ -172,6 +185,7 @@ fn moved(
     n: u64,
     constants: &[u64],
     facts: &[u64],
+    index: &[u64],
     count: u64,
     total: u64,
     objects: &[u64],
@@ -179,6 +193,7 @@ fn moved(
 ) -> Stepped
     requires { ⌜ Moving (now arities) (now listings) (now table) place n (now constants) (now facts) (now objects) (now out) ⌝ }
     requires { ⌜ isListing (now arities) (now words) ≡ true ⌝ }
+    requires { ⌜ Indexed (now arities) (now facts) (now index) (indexedCount (now facts) (now index)) ⌝ }
     requires { ⌜ count ≤ highestValue ⌝ }
     requires { ⌜ total ≤ highestValue ⌝ }
     ensures { λ r. ⌜ Moves (now (arities .entry)) (now (words .entry)) n (now (constants .entry)) (now (facts .entry))
@@ -204,6 +219,7 @@ fn moved(
         n,
         constants,
         facts,
+        index,
         &out[..rows * FACT_WORDS],
         count,
     );
@@ -221,12 +237,13 @@ pub fn step(
     n: u64,
     constants: &[u64],
     facts: &[u64],
+    index: &[u64],
     count: u64,
     total: u64,
     objects: &[u64],
     out: &mut [u64],
 ) -> Stepped
-    requires { ⌜ StepTask (now arities) (now listings) (now table) head action variant n (now constants) (now facts) count total (now objects) (now out) ⌝ }
+    requires { ⌜ StepTask (now arities) (now listings) (now table) head action variant n (now constants) (now facts) (now index) count total (now objects) (now out) ⌝ }
     ensures { λ r. ⌜ Steps (lentStep (now (arities .entry)) (now (listings .entry)) (now (table .entry)) head action variant n (now (constants .entry)) (now (facts .entry)) count total
         (now (objects .entry))) n (now (constants .entry)) r (now (out .exit)) ⌝ }
 {
@@ -239,6 +256,7 @@ pub fn step(
         n,
         constants,
         facts,
+        index,
         objects,
     ) {
         return Stepped::Refused(Refusal::Weightless);
@@ -254,6 +272,7 @@ pub fn step(
         n,
         constants,
         facts,
+        index,
         count,
         total,
         objects,

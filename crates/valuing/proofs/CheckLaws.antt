@@ -27,10 +27,10 @@ use Rattle.state.specs.declared.Valued.{Valued}
 use Rattle.state.specs.declared.Valued.the-variants.{Value, Refused}
 use Rattle.state.specs.ValueCall.{mostValuations, parameters, valuations}
 use Rattle.elimination.specs.Answer.{answerBy, isTooLarge, valueAnswer}
-use Rattle.valuing.specs.Walks.{boundNumber, boundAnswer, isFew}
+use Rattle.valuing.specs.Walks.{boundNumber, boundAnswer, isFew, InState}
 use Rattle.valuing.specs.Tables.{tablesAnswer}
 use Rattle.state.specs.LentLaws.{objects-length, object-at, all-made, all-at}
-use Rattle.valuing.specs.Index.{placeCount, objectAt}
+use Rattle.fact_index.specs.Index.{placeCount, objectAt}
 use Rattle.valuing.proofs.PassedLaws.{Passed, passed-start, passed-on, passed-no, passed-all}
 
 -- the objects of a row one by one
@@ -271,6 +271,10 @@ module _ (ar ws : List ℕ) {marks : List ℕ} (u : Used ar (diagramOf ws) marks
   few-marks n w =
       w ∙ ap₂ (λ x y. leb (n ^ (x + y)) mostValuations) (marked-variables ar (diagramOf ws) marks u) (marked-minimums ar (diagramOf ws) marks u)
       ∙ le-not-lt (n ^ (length (variables ar (diagramOf ws)) + length (minimums ar (diagramOf ws)))) mostValuations
+
+pub in-state : {ar ws : List ℕ} {n : ℕ} {constants facts marks : List ℕ} {plain : Bool} → isListing ar ws ≡ true → isState ar n constants facts ≡ true
+    → Used ar (diagramOf ws) marks → plain ≡ eqb (markedMinimums marks) 0 → InState ar ws n constants facts plain
+in-state {ar} {ws} e s u w = record { listed = e; lent = s; is-plain = plain-marks ar ws u w }
 
 -- the two ways of working
 module _ (ar ws : List ℕ) (n : ℕ) (constants facts os : List ℕ) {few : Bool} (e : few ≡ isFew ar n ws) where

@@ -27,7 +27,7 @@ use Rattle.listing.specs.Used.{Used}
 use Rattle.valuing.specs.Search.{free, TopsBy, lentHolds, leafFrom, Extends, Env, Topping, Hit, old, new, Best, Ready}
 use Rattle.valuing.specs.Rising.{turned, leafOf, Beneath, Held, Settled, Topmost, Chosen, Rising, Next}
 use Rattle.valuing.specs.Rising as rising
-use Rattle.valuing.proofs.SearchLaws.{tops-numbered, filled, filled-extends, set-env, extends-in, extends-out}
+use Rattle.valuing.proofs.SearchLaws.{tops-in-state, filled, filled-extends, set-env, extends-in, extends-out}
 use Rattle.valuing.proofs.StartLaws.{lent-value, root-number}
 
 -- ===== Leaves turned about =====
@@ -98,7 +98,7 @@ module _ {ws low ar facts index env : List ℕ} {n best : ℕ} (q : Rising ws lo
   settle-ready = record {
     valid = q .chosen .valid;
     places = q .places;
-    tops = tops-numbered ar (q .chosen .valid) (q .lows) (λ x h. turned-few best x);
+    tops = tops-in-state ar (q .chosen .valid) (q .lows) (λ x h. turned-few best x);
     indexed = q .chosen .indexed;
     env-fits = q .chosen .env-fits;
   }

@@ -26,9 +26,11 @@ use Rattle.valuing.specs.declared.Lookup.the-variants.{Free, Bucket}
 use Rattle.state.specs.State.{equated}
 use Rattle.state.specs.Lent.{factCount, predicateAt, objectsAt, someBelow, saidBy, saysFact}
 use Rattle.state.specs.LentLaws.{objects-length, object-at, some-same}
-use Rattle.valuing.specs.Index.{buckets, placeCount, objectAt, givenAt, hashEnd, hashGap, hashStart, hashStep, hashOf, bucketFor, bucketOf, says, Placed, Asked}
+use Rattle.fact_index.specs.Index.{buckets, placeCount, objectAt, hashEnd, hashGap, hashStart, hashStep, hashOf, bucketFor}
+use Rattle.fact_index.specs.IndexLaws.{Hashing, hashing-start, hashing-on}
+use Rattle.valuing.specs.Asking.{givenAt, bucketOf, says, Placed, Asked}
 use Rattle.valuing.specs.Search.{free, TopsBy, Numbered, lentTruth, lentHolds, endRow, leafFrom, Extends, given, Env, freeCount, Labelled, LooksUp, Telling, Hit, old, new, Best, Ready}
-use Rattle.valuing.proofs.FactLaws.{Hashing, hashing-start, hashing-on, placed-place, placed-term}
+use Rattle.valuing.proofs.FactLaws.{placed-place, placed-term}
 
 -- reading an answer's row
 pub follow-true : (ws : List ℕ) (r : ℕ) (b : Bool) → b ≡ true → getD ws (r * 3 + 1) 0 ≡ cond b (highAt ws r) (lowAt ws r)
@@ -305,9 +307,9 @@ module _ {g : ℕ → ℕ} {ws high : List ℕ} (ar : List ℕ) (v : Valid ar ws
   pub end-number : (r : ℕ) → r < rowCount ws → getD high (endRow ws c r r) 0 ≡ g (eval c (tree ws r))
   end-number r h = ended (suc r) r (omega arith) h
 
-pub tops-numbered : {g : ℕ → ℕ} {ws high : List ℕ} (ar : List ℕ) → Valid ar ws → TopsBy g ws high (rowCount ws)
+pub tops-in-state : {g : ℕ → ℕ} {ws high : List ℕ} (ar : List ℕ) → Valid ar ws → TopsBy g ws high (rowCount ws)
     → ((x : ℕ) → x ≤ highestValue → g x ≤ highestValue) → Numbered ws high
-tops-numbered {g} {ws} {high} ar v t few = record {
+tops-in-state {g} {ws} {high} ar v t few = record {
   bound = λ r h c. omega (arith, end-number ar v t c r h, t .bound r h c);
   few = λ r h e. omega (arith, t .leaves r h e, few (highAt ws r) (leaf-row ar ws (rowCount ws) (valid-rows ar ws v) r h e .value));
 }

@@ -5,13 +5,12 @@ use mathlib.Core.List.{List, [], _∷_, map}
 use Prim.Native.Nat.{ℕ, zero, suc, _+_, _-_, _*_, _≤_, _<_, max}
 use native.Mathlib.Omega.{arith}
 use borrow.Author.Tests.{ltb-true, leb-true, eqb-true, eqb-false, eq-eqb, ne-eqb}
-use lib.ListN.{length, getD, set, replicate, length-set, length-replicate, getD-replicate, List·getD-eq-default}
+use lib.ListN.{length, getD, set, replicate, length-set, getD-replicate, List·getD-eq-default}
 use lib.Seq.{getD-set-same, getD-set-other}
 use lib.Dec.{eqb, ltb, leb}
 use Rattle.basics.specs.Tests.{Cmp, below, equal, above, cmp, Flag, isTrue, isFalse, flag, and-left, and-right}
 use Rattle.label.specs.Limits.{termEnd, leafMark, firstParameter, firstVariable, constantCount}
 use Rattle.label.specs.Labels.{predicateOf, unpacked, termsOf}
-use Rattle.diagram.specs.Sizes.{mostRows}
 use Rattle.diagram.specs.Diagram.{Diagram, leaf, branch, eval, relabel}
 use Rattle.diagram.specs.Words.{labelAt, highAt, lowAt, rowCount, isListing}
 use Rattle.diagram.specs.WordLaws.{below-every}
@@ -30,13 +29,12 @@ use Rattle.minimum.specs.Number.{Under, Number}
 use Rattle.minimum.specs.NumberLaws.{number-is, number-attained}
 use Rattle.minimum.specs.PlainLaws.{fine-plain, number-highest}
 use Rattle.elimination.specs.AnswerLaws.{lent-good}
-use Rattle.valuing.specs.Index.{Indexed, indexedCount}
-use Rattle.valuing.specs.Search.{free, Topping, TopsBy, Tops, topBy, fixedIn, Placing, Started, lentTruth, lentHolds, leafFrom, Extends, Hit, old, new, Best, Ready}
-use Rattle.valuing.proofs.SearchLaws.{end-number, tops-numbered}
+use Rattle.valuing.specs.Search.{free, Topping, TopsBy, topBy, fixedIn, Placing, Started, lentTruth, lentHolds, leafFrom, Extends, Hit, old, new, Best, Ready}
+use Rattle.valuing.proofs.SearchLaws.{end-number, tops-in-state}
 use Rattle.valuing.specs.Rising.{leafOf, Beneath, Held, Risen, Topmost, Chosen}
 use Rattle.valuing.specs.Rising as rising
 use Rattle.valuing.specs.Walks.{boundNumber, Prepared}
-use Rattle.valuing.specs.WalkLaws.{bound-below, topping-room, prepared}
+use Rattle.valuing.specs.WalkLaws.{bound-below}
 
 -- a row's number, test by test
 module _ (g : ℕ → ℕ) (ws high : List ℕ) (i : ℕ) where
@@ -67,7 +65,7 @@ module _ {ws high : List ℕ} (t : Topping ws high) {i : ℕ} (h : i < rowCount 
   unfolding labelAt lowAt
   top-false = omega (arith, branch-row (t .arities) ws (rowCount ws) (valid-rows (t .arities) ws (t .valid)) i h n .low-before, t .places)
 
--- rows numbered one by one
+-- rows in-state one by one
 pub record Topped (g : ℕ → ℕ) (ws high : List ℕ) (i : ℕ) : Type 0 where
   pub topping : Topping ws high
   pub most : i ≤ rowCount ws
@@ -250,18 +248,8 @@ unfolding leafFrom leafOf
 root-number {g} {ws} {high} ar facts v t θ =
     end-number ar v t (lentHolds ar facts θ) (rowCount ws - 1) (omega (arith, v .some)) ∙ ap (λ d. g (eval (lentHolds ar facts θ) d)) (sym (root-tree ar ws v))
 
-pub topping-start : (ar ws : List ℕ) (m : ℕ) → isListing ar ws ≡ true → mostRows ≤ m → Topping ws (replicate m 0)
-topping-start ar ws m e h = topping-room ar ws (replicate m 0) e (rw length-replicate h)
-
 pub listing-some : (ar ws : List ℕ) → isListing ar ws ≡ true → 1 ≤ rowCount ws
 listing-some ar ws e = listing-is-valid ar ws e .some
-
--- the listing and the state are prepared
-pub start-prepared : {ar ws high : List ℕ} {n : ℕ} {constants facts index : List ℕ} → isListing ar ws ≡ true → isState ar n constants facts ≡ true
-    → Tops ws high (rowCount ws) → length high ≡ length {A = ℕ} (replicate mostRows 0) → Indexed ar facts index (indexedCount facts)
-    → Prepared ar ws high n constants facts index
-start-prepared {ar} {ws} {high} {n} {constants} {facts} {index} a b t h i =
-    prepared ar ws high n constants facts index a b (omega (arith, length-replicate {A = ℕ} mostRows 0)) t i
 
 module _ {ar ws high : List ℕ} {n : ℕ} {constants facts index : List ℕ} (p : Prepared ar ws high n constants facts index) where
   pub root-some : 1 ≤ rowCount ws
@@ -298,7 +286,7 @@ module _ {ar ws high : List ℕ} {n : ℕ} {constants facts index : List ℕ} (p
       start-ready = record {
         valid = listing-is-valid ar ws (p .listed);
         places = p .places;
-        tops = tops-numbered ar (listing-is-valid ar ws (p .listed)) (p .tops) (λ x h. h);
+        tops = tops-in-state ar (listing-is-valid ar ws (p .listed)) (p .tops) (λ x h. h);
         indexed = p .indexed;
         env-fits = record {
           places = s .places;

@@ -13,7 +13,7 @@ use Rattle.diagram.specs.Words.{rowCount}
 use Rattle.diagram.specs.Listing.{diagramOf}
 use Rattle.diagram.specs.Validity.{Valid}
 use Rattle.diagram.specs.Variables.{occurs}
-use Rattle.valuing.specs.Index.{indexedCount, Indexed}
+use Rattle.fact_index.specs.Index.{indexedCount, Indexed}
 use Rattle.valuing.specs.Search.{free, TopsBy, lentHolds, Extends, Env}
 
 -- what stands for the leaf x: the lower the leaf, the higher; what is below `best` as high as can be, so that the search beneath a choice ends there
@@ -54,7 +54,7 @@ Topmost ar facts ws env n most = (θ : ℕ → ℕ) → Extends n env θ → lea
 -- the terms before t that occur have objects, those from t on none
 pub record Chosen (ws ar facts index env : List ℕ) (n t : ℕ) : Type 0 where
   pub valid : Valid ar ws
-  pub indexed : Indexed ar facts index (indexedCount facts)
+  pub indexed : Indexed ar facts index (indexedCount facts index)
   pub env-fits : Env n env
   pub end : t ≤ firstMinimum
   pub bound : (u : ℕ) → u < t → occurs ar u (diagramOf ws) ≡ true → getD env u 0 ≡ free → ⊥

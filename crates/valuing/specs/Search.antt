@@ -15,7 +15,8 @@ use Rattle.valuing.specs.declared.Lookup.{Lookup}
 use Rattle.valuing.specs.declared.Lookup.the-variants.{Free, Bucket}
 use Rattle.state.specs.State.{equated, low}
 use Rattle.state.specs.Lent.{saidBy}
-use Rattle.valuing.specs.Index.{indexedCount, givenAt, bucketOf, Indexed}
+use Rattle.fact_index.specs.Index.{indexedCount, Indexed}
+use Rattle.valuing.specs.Asking.{givenAt, bucketOf}
 
 -- what stands in `env`, a word for each term, where a term has no object yet: no object is that high
 abbrev pub free : ℕ
@@ -110,7 +111,7 @@ pub record LooksUp (ar env : List ℕ) (l : ℕ) (r : Lookup) : Type 0 where
 -- what the truth of a label needs: an index, and the bucket b of what it asks for
 pub record Telling (ar facts index env : List ℕ) (l b : ℕ) : Type 0 where
   pub labelled : Labelled ar env l
-  pub indexed : Indexed ar facts index (indexedCount facts)
+  pub indexed : Indexed ar facts index (indexedCount facts index)
   pub bucket : b ≡ bucketOf env l (getD ar (predicateOf l) 0)
 
 -- b is the best so far, or one more than the number of a leaf that is reached from row r
@@ -135,5 +136,5 @@ pub record Ready (ws high ar facts index env : List ℕ) (n : ℕ) : Type 0 wher
   pub valid : Valid ar ws
   pub places : rowCount ws ≤ length high
   pub tops : Numbered ws high
-  pub indexed : Indexed ar facts index (indexedCount facts)
+  pub indexed : Indexed ar facts index (indexedCount facts index)
   pub env-fits : Env n env

@@ -1,37 +1,23 @@
--- Laws of what a walk asks, for those who prepare it: an array of zeros is clean, a clean index has no rows, room for a number for each row; and what the value call answers past its checks.
-use mathlib.Core.Path.{_≡_, sym, ap, _∙_}
+-- Laws of what a walk asks, for those who prepare it: room for a number for each row, objects for the parameters; and of the best so far.
+use mathlib.Core.Path.{_≡_, ap}
 use mathlib.Core.Bool.{true}
 use mathlib.Core.List.{List, [], _∷_}
-use Prim.Native.Nat.{ℕ, zero, suc, _+_, _≤_, _<_}
+use Prim.Native.Nat.{ℕ, zero, suc, _≤_, _<_}
 use native.Mathlib.Omega.{arith}
-use lib.ListN.{length, getD, replicate, length-replicate, getD-replicate}
+use lib.ListN.{length, getD}
 use lib.Dec.{ltb}
 use borrow.Author.Tests.{ltb-true}
 use Rattle.basics.specs.Tests.{and-left, and-right}
 use Rattle.diagram.specs.Sizes.{mostRows}
 use Rattle.diagram.specs.Words.{rowCount, isListing}
 use Rattle.diagram.specs.ListingValid.{listing-is-valid}
-use Rattle.table.specs.ChainLaws.{prev-zero}
 use Rattle.state.specs.declared.Valued.the-variants.{Value}
 use Rattle.state.specs.State.{State, Good}
 use Rattle.state.specs.Highest.{Bound}
 use Rattle.state.specs.Lent.{allBelow, isState}
-use Rattle.valuing.specs.Index.{buckets, mostIndexed, indexedCount, bucketAt, Indexed, Clean}
+use Rattle.fact_index.specs.Index.{indexedCount, Indexed}
 use Rattle.valuing.specs.Search.{Topping, Tops}
 use Rattle.valuing.specs.Walks.{climbed, Prepared}
-
--- ===== The index =====
-pub clean-zeros : (m : ℕ) → buckets + mostIndexed ≤ m → Clean (replicate m 0)
-clean-zeros m h = record { places = rw length-replicate h; heads = λ b l. getD-replicate m b 0 0 (omega arith) }
-
-pub clean-indexed : (ar facts index : List ℕ) → Clean index → Indexed ar facts index 0
-clean-indexed ar facts index c = record {
-  places = c .places;
-  rows = omega arith;
-  few = omega arith;
-  head = λ b l. c .heads b l ∙ sym (prev-zero (bucketAt ar facts) b);
-  link = λ i l. absurd (omega arith);
-}
 
 -- ===== The rows' highest leaves =====
 pub topping-room : (ar ws high : List ℕ) → isListing ar ws ≡ true → mostRows ≤ length high → Topping ws high
@@ -40,7 +26,7 @@ topping-room ar ws high e h =
     record { arities = ar; valid = v; places = omega (arith, v .few) }
 
 pub prepared : (ar ws high : List ℕ) (n : ℕ) (constants facts index : List ℕ) → isListing ar ws ≡ true → isState ar n constants facts ≡ true → mostRows ≤ length high
-    → Tops ws high (rowCount ws) → Indexed ar facts index (indexedCount facts) → Prepared ar ws high n constants facts index
+    → Tops ws high (rowCount ws) → Indexed ar facts index (indexedCount facts index) → Prepared ar ws high n constants facts index
 prepared ar ws high n constants facts index e s h t i =
     record { listed = e; lent = s; places = omega (arith, listing-is-valid ar ws e .few); tops = t; indexed = i }
 
@@ -57,5 +43,3 @@ bound-below {s} good os e = record { each = go os e }
 pub climbed-first : (v : ℕ) → climbed 0 (Value v) ≡ Value (suc v)
 unfolding climbed
 climbed-first v = ap Value (omega arith)
-
--- ===== The value call =====

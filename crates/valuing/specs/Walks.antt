@@ -8,6 +8,7 @@ use lib.Dec.{ltb}
 use Rattle.refusal.specs.declared.Refusal.the-variants.{Valuations}
 use Rattle.diagram.specs.Words.{rowCount, isListing}
 use Rattle.diagram.specs.Listing.{diagramOf}
+use Rattle.diagram.specs.Variables.{isPlain}
 use Rattle.state.specs.declared.Valued.{Valued}
 use Rattle.state.specs.declared.Valued.the-variants.{Value, Refused}
 use Rattle.state.specs.State.{meaning}
@@ -15,7 +16,7 @@ use Rattle.state.specs.Lent.{stateOf, isState}
 use Rattle.state.specs.ValueCall.{mostValuations, valuations}
 use Rattle.minimum.specs.Number.{number}
 use Rattle.elimination.specs.Answer.{isTooLarge}
-use Rattle.valuing.specs.Index.{indexedCount, Indexed}
+use Rattle.fact_index.specs.Index.{indexedCount, Indexed}
 use Rattle.valuing.specs.Search.{Tops}
 
 -- ===== What is answered =====
@@ -42,10 +43,16 @@ unfoldable pub isFew : List ℕ → ℕ → List ℕ → Bool
 unfolding valuations
 isFew ar n ws = not (ltb mostValuations (valuations ar n (diagramOf ws)))
 
+-- a listing and a state, and whether the listing has no minimum variable
+pub record InState (ar ws : List ℕ) (n : ℕ) (constants facts : List ℕ) (plain : Bool) : Type 0 where
+  pub listed : isListing ar ws ≡ true
+  pub lent : isState ar n constants facts ≡ true
+  pub is-plain : plain ≡ isPlain ar (diagramOf ws)
+
 -- a listing with its rows' highest leaves, and a state with the index of its facts
 pub record Prepared (ar ws high : List ℕ) (n : ℕ) (constants facts index : List ℕ) : Type 0 where
   pub listed : isListing ar ws ≡ true
   pub lent : isState ar n constants facts ≡ true
   pub places : rowCount ws ≤ length high
   pub tops : Tops ws high (rowCount ws)
-  pub indexed : Indexed ar facts index (indexedCount facts)
+  pub indexed : Indexed ar facts index (indexedCount facts index)

@@ -4,9 +4,9 @@ ghost use mathlib.Core.Bool.{true, false, not, cond};
 ghost use mathlib.Core.List.{[]};
 ghost use Prim.Native.Nat.{suc, _+_, _-_, _*_, _^_, _<_, _≤_, max};
 ghost use lib.ListN.{length, getD};
-ghost use lib.Dec.{eqb, ltb, leb};
-ghost use Rattle.label.specs.Limits.{mostPlaces, termEnd, firstParameter, parameterCount, firstVariable, firstMinimum};
-ghost use Rattle.diagram.specs.Sizes.{highestValue};
+ghost use lib.Dec.{eqb, leb};
+ghost use Rattle.label.specs.Limits.{termEnd, firstParameter, parameterCount, firstVariable, firstMinimum};
+ghost use Rattle.diagram.specs.Sizes.{highestValue, mostRows};
 ghost use Rattle.diagram.specs.Listing.{diagramOf};
 ghost use Rattle.diagram.specs.Variables.{isPlain};
 ghost use Rattle.diagram.specs.Words.{highAt, lowAt, rowCount, isListing, everyBelow};
@@ -14,9 +14,10 @@ ghost use Rattle.listing.specs.Used.{Used, setFrom, markedVariables, markedMini
 ghost use Rattle.state.specs.Lent.{factWords, factCount, someBelow, allBelow, namesBelow, constantsBelow, isState};
 ghost use Rattle.state.specs.ValueCall.{mostValuations};
 ghost use Rattle.elimination.specs.Answer.{valueAnswer};
-ghost use Rattle.valuing.specs.Index.{buckets, mostIndexed, indexedCount, placeCount, hashEnd, hashGap, hashStart, hashStep, bucketFor, bucketAt, says, Indexed, Clean, Placed, Asked, Sought};
+ghost use Rattle.fact_index.specs.Index.{indexedCount, Indexed, Sought};
+ghost use Rattle.valuing.specs.Asking.{says, Placed, Asked};
 ghost use Rattle.valuing.specs.Tables.{tablesAnswer, Liftable};
-ghost use Rattle.valuing.specs.Walks.{boundNumber, boundAnswer, climbed, isFew, Prepared};
+ghost use Rattle.valuing.specs.Walks.{boundNumber, boundAnswer, climbed, isFew, InState, Prepared};
 ghost use Rattle.valuing.specs.Search.{free, Topping, TopsBy, Tops, topBy, fixedIn, Placing, lentHolds, given, Labelled, LooksUp, Telling, Best, Ready};
 ghost use Rattle.valuing.specs.Rising.{turned, Risen, Settled, Topmost, Chosen, Rising, Next};
 use eliminate::Reached;
@@ -35,104 +36,10 @@ pub enum Lookup {
 
 // What stands for a term that has no object yet.
 const FREE: u64 = 18446744073709551615;
-// Buckets of the index of facts.
-const BUCKETS: usize = 2048;
-// Rows of facts in the index at most.
-const INDEXED: usize = 4096;
-// Words of the index of facts.
-pub const INDEX_WORDS: usize = BUCKETS + INDEXED;
-// Of a fact's number, and of an object, what is below this counts.
-const HASH_END: u64 = 4294967296;
-// The numbers of predicates stand so far apart.
-const HASH_GAP: u64 = 64;
+// Rows of facts that a value's own index holds: all of a text's state; and where there are more.
+const FEW_FACTS: usize = 1024;
 
-// The places of predicate p.
-fn place_count(arities: &[u64], p: u64) -> usize
-    ensures { λ r. ⌜ (r ≡ placeCount (now (arities .entry)) p) × (r ≤ mostPlaces) ⌝ }
-{
-    let i = p as usize;
-    if i >= arities.len() {
-        return 0;
-    }
-    if arities[i] < Label::PLACES {
-        return arities[i] as usize;
-    }
-    Label::PLACES as usize
-}
-
-// The number of a fact of p, before its objects.
-fn hash_start(p: u64) -> u64
-    ensures { λ r. ⌜ (r ≡ hashStart p) × (r < hashEnd * hashGap) ⌝ }
-{
-    p % HASH_END * HASH_GAP
-}
-
-// One object more.
-fn hash_step(h: u64, o: u64) -> u64
-    requires { ⌜ h < hashEnd * hashGap ⌝ }
-    ensures { λ r. ⌜ (r ≡ hashStep h o) × (r < hashEnd * hashGap) ⌝ }
-{
-    (h * 37 + o % HASH_END) % HASH_END
-}
-
-// The bucket of a fact with the number h.
-fn bucket(h: u64) -> usize
-    requires { ⌜ h < hashEnd * hashGap ⌝ }
-    ensures { λ r. ⌜ (r ≡ bucketFor h) × (r < buckets) ⌝ }
-{
-    ((h as usize) + (h as usize) / BUCKETS) % BUCKETS
-}
-
-// The bucket of row i.
-fn row_bucket(arities: &[u64], facts: &[u64], i: usize) -> usize
-    requires { ⌜ i * factWords + factWords ≤ length (now facts) ⌝ }
-    ensures { λ r. ⌜ (r ≡ bucketAt (now (arities .entry)) (now (facts .entry)) i) × (r < buckets) ⌝ }
-{
-    let p = facts[i * FACT_WORDS];
-    let k = place_count(arities, p);
-    let mut h = hash_start(p);
-    let mut j = 0;
-    while j < k {
-        h = hash_step(h, facts[i * FACT_WORDS + 1 + j]);
-        j += 1;
-    }
-    bucket(h)
-}
-
-// Makes the index of the facts in a clean one.
-pub fn index_facts(arities: &[u64], facts: &[u64], index: &mut [u16])
-    requires { ⌜ Clean (now index) ⌝ }
-    ensures { λ _. ⌜ Indexed (now (arities .entry)) (now (facts .entry)) (now (index .exit)) (indexedCount (now (facts .entry))) ⌝ }
-{
-    let rows = facts.len() / FACT_WORDS;
-    let mut i = 0;
-    while i < rows {
-        if i == INDEXED {
-            return;
-        }
-        let h = row_bucket(arities, facts, i);
-        index[BUCKETS + i] = index[h];
-        index[h] = (i + 1) as u16;
-        i += 1;
-    }
-}
-
-// Cleans the index of the facts: only their buckets are written.
-pub fn clear_index(arities: &[u64], facts: &[u64], index: &mut [u16])
-    requires { ⌜ Indexed (now arities) (now facts) (now index) (indexedCount (now facts)) ⌝ }
-    ensures { λ _. ⌜ Clean (now (index .exit)) ⌝ }
-{
-    let rows = facts.len() / FACT_WORDS;
-    let mut row = 0;
-    while row < rows {
-        if row == INDEXED {
-            return;
-        }
-        let h = row_bucket(arities, facts, row);
-        index[h] = 0;
-        row += 1;
-    }
-}
+const MANY_FACTS: usize = 4096;
 
 // Whether row i says what the label with k places asks for.
 fn row_says(facts: &[u64], i: usize, env: &[u64], l: Label, k: u64) -> bool
@@ -155,28 +62,28 @@ fn row_says(facts: &[u64], i: usize, env: &[u64], l: Label, k: u64) -> bool
 }
 
 // Whether an indexed row says it.
-fn indexed(facts: &[u64], index: &[u16], env: &[u64], l: Label, k: u64, bucket: usize) -> bool
+fn indexed(facts: &[u64], index: &[u64], env: &[u64], l: Label, k: u64, bucket: usize) -> bool
     requires { ⌜ Asked (now facts) (now index) (now env) (l .packed) k bucket ⌝ }
-    ensures { λ r. ⌜ Sought (says (now (facts .entry)) (now (env .entry)) (l .packed) k) 0 (indexedCount (now (facts .entry))) r ⌝ }
+    ensures { λ r. ⌜ Sought (says (now (facts .entry)) (now (env .entry)) (l .packed) k) 0 (indexedCount (now (facts .entry)) (now (index .entry))) r ⌝ }
 {
-    let mut at = basics::wide(index[bucket]);
+    let mut at = index[bucket] as usize;
     while at != 0 {
         let i = at - 1;
         if row_says(facts, i, env, l, k) {
             return true;
         }
-        at = basics::wide(index[BUCKETS + i]);
+        at = index[fact_index::BUCKETS + i] as usize;
     }
     false
 }
 
-// Whether a row behind the indexed ones says it.
-fn scanned(facts: &[u64], env: &[u64], l: Label, k: u64) -> bool
+// Whether a row from `from` on says it: those behind the indexed ones.
+fn scanned(facts: &[u64], env: &[u64], l: Label, k: u64, from: usize) -> bool
     requires { ⌜ Placed (now env) (l .packed) k ⌝ }
-    ensures { λ r. ⌜ Sought (says (now (facts .entry)) (now (env .entry)) (l .packed) k) mostIndexed (factCount (now (facts .entry))) r ⌝ }
+    ensures { λ r. ⌜ Sought (says (now (facts .entry)) (now (env .entry)) (l .packed) k) from (factCount (now (facts .entry))) r ⌝ }
 {
     let rows = facts.len() / FACT_WORDS;
-    let mut i = INDEXED;
+    let mut i = from;
     while i < rows {
         if row_says(facts, i, env, l, k) {
             return true;
@@ -187,14 +94,14 @@ fn scanned(facts: &[u64], env: &[u64], l: Label, k: u64) -> bool
 }
 
 // Whether a row of the facts says what the label with k places asks for.
-fn found(facts: &[u64], index: &[u16], env: &[u64], l: Label, k: u64, bucket: usize) -> bool
+fn found(facts: &[u64], index: &[u64], env: &[u64], l: Label, k: u64, bucket: usize) -> bool
     requires { ⌜ Asked (now facts) (now index) (now env) (l .packed) k bucket ⌝ }
     ensures { λ r. ⌜ r ≡ someBelow (factCount (now (facts .entry))) (says (now (facts .entry)) (now (env .entry)) (l .packed) k) ⌝ }
 {
     if indexed(facts, index, env, l, k, bucket) {
         return true;
     }
-    scanned(facts, env, l, k)
+    scanned(facts, env, l, k, index.len() - fact_index::BUCKETS)
 }
 
 // Looks up the objects of the label's places, one after the other.
@@ -205,7 +112,7 @@ fn look_up(arities: &[u64], env: &[u64], l: Label) -> Lookup
     let p = l.predicate();
     let q = p as usize;
     let k = arities[q];
-    let mut h = hash_start(p);
+    let mut h = fact_index::hash_start(p);
     let mut j = 0;
     while j < k {
         let t = l.place(j) as usize;
@@ -213,17 +120,17 @@ fn look_up(arities: &[u64], env: &[u64], l: Label) -> Lookup
         if o == FREE {
             return Lookup::Free(t);
         }
-        h = hash_step(h, o);
+        h = fact_index::hash_step(h, o);
         j += 1;
     }
-    Lookup::Bucket(bucket(h))
+    Lookup::Bucket(fact_index::bucket(h))
 }
 
 // Whether the label holds of its objects.
 fn truth(
     arities: &[u64],
     facts: &[u64],
-    index: &[u16],
+    index: &[u64],
     env: &[u64],
     l: Label,
     bucket: usize,
@@ -258,7 +165,7 @@ fn go(
     high: &[u64],
     arities: &[u64],
     facts: &[u64],
-    index: &[u16],
+    index: &[u64],
     env: &mut [u64],
     n: u64,
     r0: usize,
@@ -293,7 +200,7 @@ fn bind(
     high: &[u64],
     arities: &[u64],
     facts: &[u64],
-    index: &[u16],
+    index: &[u64],
     env: &mut [u64],
     n: u64,
     r: usize,
@@ -397,7 +304,7 @@ fn settle(
     low: &mut [u64],
     arities: &[u64],
     facts: &[u64],
-    index: &[u16],
+    index: &[u64],
     env: &mut [u64],
     n: u64,
     best: u64,
@@ -438,7 +345,7 @@ fn rise(
     low: &mut [u64],
     arities: &[u64],
     facts: &[u64],
-    index: &[u16],
+    index: &[u64],
     marks: &[u64],
     env: &mut [u64],
     n: u64,
@@ -487,7 +394,7 @@ fn rise_all(
     words: &[u64],
     arities: &[u64],
     facts: &[u64],
-    index: &[u16],
+    index: &[u64],
     env: &mut [u64],
     n: u64,
     most: u64,
@@ -562,7 +469,7 @@ fn climb_rows(
     n: u64,
     constants: &[u64],
     facts: &[u64],
-    index: &[u16],
+    index: &[u64],
     objects: &[u64],
     plain: bool,
     best: u64,
@@ -588,39 +495,90 @@ fn climb_rows(
     rise_all(words, arities, facts, index, &mut env, n, most, best)
 }
 
-// The number of a listing in a state, with objects for the parameters.
+// The number of a listing in a state whose facts are indexed; parameters have the object of constant 0. What stands in `high` does not matter.
 fn number_of(
     arities: &[u64],
     words: &[u64],
     n: u64,
     constants: &[u64],
     facts: &[u64],
-    objects: &[u64],
+    index: &[u64],
+    high: &mut [u64],
     plain: bool,
 ) -> u64
-    requires { ⌜ isListing (now arities) (now words) ≡ true ⌝ }
-    requires { ⌜ isState (now arities) n (now constants) (now facts) ≡ true ⌝ }
-    requires { ⌜ allBelow n (now objects) ≡ true ⌝ }
-    requires { ⌜ plain ≡ isPlain (now arities) (diagramOf (now words)) ⌝ }
-    ensures { λ r. ⌜ r ≡ boundNumber (now (arities .entry)) (now (words .entry)) n (now (constants .entry)) (now (facts .entry)) (now (objects .entry)) ⌝ }
+    requires { ⌜ InState (now arities) (now words) n (now constants) (now facts) plain ⌝ }
+    requires { ⌜ Indexed (now arities) (now facts) (now index) (indexedCount (now facts) (now index)) ⌝ }
+    requires { ⌜ mostRows ≤ length (now high) ⌝ }
+    ensures { λ r. ⌜ r ≡ boundNumber (now (arities .entry)) (now (words .entry)) n (now (constants .entry)) (now (facts .entry)) [] ⌝ }
 {
-    let mut high = [0u64; diagram::ROWS];
-    tops(words, &mut high);
-    let mut index = [0u16; INDEX_WORDS];
-    index_facts(arities, facts, &mut index);
+    tops(words, high);
     let best = climb_rows(
         arities,
         words,
-        &high,
+        high,
         n,
         constants,
         facts,
-        &index,
-        objects,
+        index,
+        &constants[..0],
         plain,
         0,
     );
     best - 1
+}
+
+// The same, with an index of few facts made for it.
+fn number_few(
+    arities: &[u64],
+    words: &[u64],
+    n: u64,
+    constants: &[u64],
+    facts: &[u64],
+    plain: bool,
+) -> u64
+    requires { ⌜ InState (now arities) (now words) n (now constants) (now facts) plain ⌝ }
+    ensures { λ r. ⌜ r ≡ boundNumber (now (arities .entry)) (now (words .entry)) n (now (constants .entry)) (now (facts .entry)) [] ⌝ }
+{
+    let mut index = [0u64; fact_index::BUCKETS + FEW_FACTS];
+    fact_index::index_facts(arities, facts, &mut index);
+    let mut high = [0u64; diagram::ROWS];
+    number_of(
+        arities,
+        words,
+        n,
+        constants,
+        facts,
+        &index,
+        &mut high,
+        plain,
+    )
+}
+
+// The same, with an index of many.
+fn number_many(
+    arities: &[u64],
+    words: &[u64],
+    n: u64,
+    constants: &[u64],
+    facts: &[u64],
+    plain: bool,
+) -> u64
+    requires { ⌜ InState (now arities) (now words) n (now constants) (now facts) plain ⌝ }
+    ensures { λ r. ⌜ r ≡ boundNumber (now (arities .entry)) (now (words .entry)) n (now (constants .entry)) (now (facts .entry)) [] ⌝ }
+{
+    let mut index = [0u64; fact_index::BUCKETS + MANY_FACTS];
+    fact_index::index_facts(arities, facts, &mut index);
+    let mut high = [0u64; diagram::ROWS];
+    number_of(
+        arities,
+        words,
+        n,
+        constants,
+        facts,
+        &index,
+        &mut high,
+        plain,
+    )
 }
 
 // Whether a parameter is marked.
@@ -678,7 +636,7 @@ fn row_fits(arities: &[u64], n: u64, facts: &[u64], i: usize) -> bool
     requires { ⌜ i * factWords + factWords ≤ length (now facts) ⌝ }
     ensures { λ r. ⌜ r ≡ namesBelow (now (arities .entry)) n (now (facts .entry)) i ⌝ }
 {
-    let k = place_count(arities, facts[i * FACT_WORDS]);
+    let k = fact_index::place_count(arities, facts[i * FACT_WORDS]);
     let mut j = 0;
     while j < k {
         if facts[i * FACT_WORDS + 1 + j] >= n {
@@ -796,7 +754,7 @@ pub fn climb(
     n: u64,
     constants: &[u64],
     facts: &[u64],
-    index: &[u16],
+    index: &[u64],
     objects: &[u64],
     few: bool,
     plain: bool,
@@ -859,17 +817,17 @@ fn value_by(
     few: bool,
     plain: bool,
 ) -> Valued
-    requires { ⌜ isListing (now arities) (now words) ≡ true ⌝ }
-    requires { ⌜ isState (now arities) n (now constants) (now facts) ≡ true ⌝ }
+    requires { ⌜ InState (now arities) (now words) n (now constants) (now facts) plain ⌝ }
     requires { ⌜ few ≡ isFew (now arities) n (now words) ⌝ }
-    requires { ⌜ plain ≡ isPlain (now arities) (diagramOf (now words)) ⌝ }
     ensures { λ r. ⌜ r ≡ boundAnswer (now (arities .entry)) (now (words .entry)) n (now (constants .entry)) (now (facts .entry)) [] ⌝ }
 {
-    let objects = &constants[..0];
-    if few {
-        return Valued::Value(number_of(arities, words, n, constants, facts, objects, plain));
+    if !few {
+        return by_tables(arities, words, n, constants, facts, &constants[..0], plain);
     }
-    by_tables(arities, words, n, constants, facts, objects, plain)
+    if facts.len() > FEW_FACTS * FACT_WORDS {
+        return Valued::Value(number_many(arities, words, n, constants, facts, plain));
+    }
+    Valued::Value(number_few(arities, words, n, constants, facts, plain))
 }
 
 // The value of a listing in a state, both known to be such.
@@ -889,6 +847,31 @@ pub fn value_listed(
     let small = is_small(n, &marks);
     let plain = listing::is_plain(&marks);
     value_by(arities, words, n, constants, facts, small, plain)
+}
+
+// The same, where the facts are indexed, in lent words for the rows' highest leaves.
+pub fn value_indexed(
+    arities: &[u64],
+    words: &[u64],
+    n: u64,
+    constants: &[u64],
+    facts: &[u64],
+    index: &[u64],
+    high: &mut [u64],
+) -> Valued
+    requires { ⌜ isListing (now arities) (now words) ≡ true ⌝ }
+    requires { ⌜ isState (now arities) n (now constants) (now facts) ≡ true ⌝ }
+    requires { ⌜ Indexed (now arities) (now facts) (now index) (indexedCount (now facts) (now index)) ⌝ }
+    requires { ⌜ mostRows ≤ length (now high) ⌝ }
+    ensures { λ r. ⌜ r ≡ boundAnswer (now (arities .entry)) (now (words .entry)) n (now (constants .entry)) (now (facts .entry)) [] ⌝ }
+{
+    let mut marks = [0u64; Term::END as usize];
+    listing::used(arities, words, &mut marks);
+    let plain = listing::is_plain(&marks);
+    if is_small(n, &marks) {
+        return Valued::Value(number_of(arities, words, n, constants, facts, index, high, plain));
+    }
+    by_tables(arities, words, n, constants, facts, &constants[..0], plain)
 }
 
 // The value of a listing in a state that are lent with an arity list: its number.

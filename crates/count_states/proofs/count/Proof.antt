@@ -1,4 +1,4 @@
-use Rattle.valuing.specs.WalkLaws.{clean-zeros}
+use Rattle.fact_index.specs.IndexLaws.{clean-zeros}
 use lib.Dec.{lit≤}
 use Rattle.count_states.proofs.StateLaws.{countable-declared, high-room, count-valuing, count-many, ground-rows-room, count-choices, count-spreading, count-done}
 use borrow.Author.Needs.{needs}
@@ -29,7 +29,7 @@ count-choices-requires c κs =
     let e = told .before .before .before .before .before .before .before .before .ground-count .ensures in
     let h = told .before .before .before .before .before .before .before .before .before .before .before .before .before .pre in (
       count-valuing h 1024 (lit≤ tt) (t .kept .1 .0) (t .ensures) (told .is-few .ensures) (marked .is-plain .ensures),
-      (count-choices h e _ l (w .ensures) 112 (lit≤ tt) (w .kept .1 .1 .1 .0), (clean-zeros 6144 (lit≤ tt), count-spreading h e _ l (w .ensures))),
+      (count-choices h e _ l (w .ensures) 112 (lit≤ tt) (w .kept .1 .1 .1 .0), (clean-zeros 1040 (lit≤ tt), count-spreading h e _ l (w .ensures))),
     )
 
 returns-2 : tie.Need-returns-2

@@ -8,13 +8,13 @@ use Rattle.replay_step.proofs.has_no_weight.Tie as tie
 
 is-weightless-requires : tie.Need-is-weightless-requires
 is-weightless-requires c κs =
-    let start = c .before .before .before .before .before .before .before .before .before in
+    let start = c .before .before .before .before .before .before .before .before .before .before in
     let a = start .args in
     weighing-part (start .pre) (part-words (a .listings .now) (getD (a .table .now) (a .place) 0) (getD (a .table .now) (a .place + 1) 0))
 
 returns : tie.Need-returns
 returns c =
-    let a = c .before .before .before .before .before .before .before .before .before .before .args in
+    let a = c .before .before .before .before .before .before .before .before .before .before .before .args in
     weightless-part _ _ _ _ _ (part-words (a .listings .now) (getD (a .table .now) (a .place) 0) (getD (a .table .now) (a .place + 1) 0)) (c .is-weightless .ensures)
 
 pub has-no-weight-spec : {M : Type 1} → statement M

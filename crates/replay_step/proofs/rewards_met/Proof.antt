@@ -9,7 +9,7 @@ returns c = met-stops _ _ _ _ _ _ _ (c .before .before .reward-before .ensures) 
 added-requires : tie.Need-added-requires
 added-requires c κs =
     let at-before = c .before .before .before .before in
-    met-ready (at-before .before .before .before .before .before .before .pre) _ (at-before .reward-before .ensures) (c .before .before .before2 .given .1) (c .value-listed .ensures)
+    met-ready (at-before .before .before .before .before .before .before .before .pre) _ (at-before .reward-before .ensures) (c .before .before .before2 .given .1) (c .value-listed .ensures)
 
 returns-2 : tie.Need-returns-2
 returns-2 c =

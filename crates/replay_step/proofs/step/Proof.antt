@@ -5,27 +5,27 @@ use Rattle.replay_step.proofs.step.Statement.{statement}
 use Rattle.replay_step.proofs.step.Tie as tie
 
 mul-place-2 : tie.Need-mul-place-2
-mul-place-2 c = let p = place-inside (c .before .before .before .before .before .before .before .pre) in search needs
+mul-place-2 c = let p = place-inside (c .before .before .before .before .before .before .before .before .pre) in search needs
 
 add-place-2 : tie.Need-add-place-2
-add-place-2 c = let p = place-inside (c .before .before .before .before .before .before .before .pre) in search needs
+add-place-2 c = let p = place-inside (c .before .before .before .before .before .before .before .before .pre) in search needs
 
 has-no-weight-requires : tie.Need-has-no-weight-requires
-has-no-weight-requires c κs = weight-ready (c .before .before .before .before .before .before .before .pre)
+has-no-weight-requires c κs = weight-ready (c .before .before .before .before .before .before .before .before .pre)
 
 returns : tie.Need-returns
-returns c = step-weightless (c .before .before .before .before .before .before .before .before .before .pre) (c .before .has-no-weight .ensures) (c .if1 .taken)
+returns c = step-weightless (c .before .before .before .before .before .before .before .before .before .before .pre) (c .before .has-no-weight .ensures) (c .if1 .taken)
 
 moved-requires : tie.Need-moved-requires
 moved-requires c κs =
-    let start = c .before .before .before .before .before .before .before .before .before .before .before .before in
+    let start = c .before .before .before .before .before .before .before .before .before .before .before .before .before in
     let a = start .args in
     let words = part-words (a .listings .now) (a .head .«reward_start») (a .head .«reward_words») in
-    (move-ready (start .pre), (reward-listed (start .pre) words, (start .pre .count-few, start .pre .total-few)))
+    (move-ready (start .pre), (reward-listed (start .pre) words, (start .pre .indexed, (start .pre .count-few, start .pre .total-few))))
 
 returns-2 : tie.Need-returns-2
 returns-2 c =
-    let start = c .before .before .before .before .before .before .before .before .before .before .before .before .before .before .before in
+    let start = c .before .before .before .before .before .before .before .before .before .before .before .before .before .before .before .before in
     let a = start .args in
     let words = part-words (a .listings .now) (a .head .«reward_start») (a .head .«reward_words») in
     step-moved (start .pre) words (c .before .before .before .before .before .before .before .has-no-weight .ensures) (c .before .before .before .before .before .before .if1 .left)

@@ -1,5 +1,5 @@
-use Rattle.valuing.proofs.FactLaws.{found-indexed, found-scanned}
 use borrow.Author.Needs.{needs}
+use Rattle.valuing.proofs.FactLaws.{found-indexed, found-scanned}
 use Rattle.valuing.proofs.found.Statement.{statement}
 use Rattle.valuing.proofs.found.Tie as tie
 
@@ -11,4 +11,4 @@ returns-2 c = search found-scanned
 
 pub found-spec : {M : Type 1} → statement M
 found-spec =
-    tie.close (tie.spec (λ c κs. search needs) returns (λ c κs. search needs) returns-2)
+    tie.close (tie.spec (λ c κs. search needs) returns (λ c. search needs) (λ c κs. search needs) returns-2)

@@ -5,10 +5,10 @@ use Rattle.valuing.proofs.scanned.Statement.{statement}
 use Rattle.valuing.proofs.scanned.Tie as tie
 
 abbrev Inv-loop : tie.InvT-loop
-Inv-loop facts env l k rows i₀ i = Scan facts env (l .packed) k i
+Inv-loop facts env l k from rows i₀ i = Scan facts env (l .packed) k from i
 
 abbrev μ-loop : tie.MeasureT-loop
-μ-loop facts env l k rows i₀ i = rows - i
+μ-loop facts env l k from rows i₀ i = rows - i
 
 loop-holds : tie.Need-loop-holds Inv-loop μ-loop
 loop-holds c = search scan-start

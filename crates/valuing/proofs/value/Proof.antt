@@ -2,7 +2,7 @@ use Prim.Native.Nat.{ℕ}
 use lib.ListN.{length-replicate}
 use Rattle.label.specs.Limits.{termEnd}
 use borrow.Author.Needs.{needs}
-use Rattle.valuing.proofs.CheckLaws.{value-1, value-2, value-3, value-4, state-some, few-marks, plain-marks, fits-listing, fits-valid, fits-state}
+use Rattle.valuing.proofs.CheckLaws.{value-1, value-2, value-3, value-4, state-some, few-marks, in-state, fits-listing, fits-valid, fits-state}
 use Rattle.valuing.proofs.value.Statement.{statement}
 use Rattle.valuing.proofs.value.Tie as tie
 
@@ -26,13 +26,10 @@ is-small-requires c κs =
 value-by-requires : tie.Need-value-by-requires
 value-by-requires c κs =
     let at-used = c .before .before .before .before .before .before .before .before in
-    let checked = at-used .before .before in (
-      fits-listing _ _ (checked .before .before .before .check .ensures) (checked .before .before .if1 .left),
-      (
-        fits-state _ _ _ _ (checked .before .state-fits .ensures) (checked .if2 .left),
-        (few-marks _ _ (at-used .used .ensures) _ (c .before .before .is-small .ensures), plain-marks _ _ (at-used .used .ensures) (c .is-plain .ensures)),
-      ),
-    )
+    let checked = at-used .before .before in
+    let listed = fits-listing _ _ (checked .before .before .before .check .ensures) (checked .before .before .if1 .left) in
+    let lent = fits-state _ _ _ _ (checked .before .state-fits .ensures) (checked .if2 .left) in
+    (in-state listed lent (at-used .used .ensures) (c .is-plain .ensures), few-marks _ _ (at-used .used .ensures) _ (c .before .before .is-small .ensures))
 
 returns-4 : tie.Need-returns-4
 returns-4 c = search value-4

@@ -3,7 +3,7 @@ use lib.ListN.{length-replicate}
 use borrow.Author.Needs.{needs}
 use Rattle.label.specs.Limits.{termEnd}
 use Rattle.diagram.specs.ListingValid.{listing-is-valid}
-use Rattle.valuing.proofs.CheckLaws.{lent-some, few-marks, plain-marks}
+use Rattle.valuing.proofs.CheckLaws.{lent-some, few-marks, in-state}
 use Rattle.valuing.proofs.value_listed.Statement.{statement}
 use Rattle.valuing.proofs.value_listed.Tie as tie
 
@@ -15,8 +15,9 @@ is-small-requires c κs = (search lent-some, search needs)
 
 value-by-requires : tie.Need-value-by-requires
 value-by-requires c κs =
-    let marked = c .before .before .before .before .before .used .ensures in
-    (search needs, (search needs, (few-marks _ _ marked _ (c .before .before .is-small .ensures), plain-marks _ _ marked (c .is-plain .ensures))))
+    let at-used = c .before .before .before .before .before in
+    let entry = at-used .before .before .before .before .before .before .pre in
+    (in-state (entry .0) (entry .1) (at-used .used .ensures) (c .is-plain .ensures), few-marks _ _ (at-used .used .ensures) _ (c .before .before .is-small .ensures))
 
 pub value-listed-spec : {M : Type 1} → statement M
 value-listed-spec =

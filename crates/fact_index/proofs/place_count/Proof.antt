@@ -1,7 +1,7 @@
-use Rattle.valuing.proofs.FactLaws.{count-none, count-few, count-all}
+use Rattle.fact_index.proofs.FactLaws.{count-none, count-few, count-all}
 use borrow.Author.Needs.{needs}
-use Rattle.valuing.proofs.place_count.Statement.{statement}
-use Rattle.valuing.proofs.place_count.Tie as tie
+use Rattle.fact_index.proofs.place_count.Statement.{statement}
+use Rattle.fact_index.proofs.place_count.Tie as tie
 
 returns : tie.Need-returns
 returns c = (search count-none, search needs)

@@ -1,8 +1,8 @@
 use mathlib.Core.Path.{refl}
-use Rattle.valuing.specs.Index.{bucketFor}
+use Rattle.fact_index.specs.Index.{bucketFor}
 use borrow.Author.Needs.{needs}
-use Rattle.valuing.proofs.bucket.Statement.{statement}
-use Rattle.valuing.proofs.bucket.Tie as tie
+use Rattle.fact_index.proofs.bucket.Statement.{statement}
+use Rattle.fact_index.proofs.bucket.Tie as tie
 
 returns : tie.Need-returns
 unfolding bucketFor

@@ -3,11 +3,11 @@ use mathlib.Core.Path.{_≡_}
 use Prim.Native.Nat.{_-_, _≤_}
 use native.Mathlib.Omega.{arith}
 use lib.ListN.{length, length-set}
-use Rattle.valuing.specs.Index.{Indexed}
-use Rattle.valuing.specs.WalkLaws.{clean-indexed}
-use Rattle.valuing.proofs.FactLaws.{index-on, index-full, index-done}
-use Rattle.valuing.proofs.index_facts.Statement.{statement}
-use Rattle.valuing.proofs.index_facts.Tie as tie
+use Rattle.fact_index.specs.Index.{Indexed}
+use Rattle.fact_index.specs.IndexLaws.{clean-indexed}
+use Rattle.fact_index.proofs.FactLaws.{index-on, index-full, index-done}
+use Rattle.fact_index.proofs.index_facts.Statement.{statement}
+use Rattle.fact_index.proofs.index_facts.Tie as tie
 
 abbrev Inv-loop : tie.InvT-loop
 Inv-loop arities facts index₀ rows i₀ index i = (length index ≡ length index₀) × (i ≤ rows) × Indexed arities facts index i
@@ -33,6 +33,4 @@ returns-2 c = search index-done
 pub index-facts-spec : {M : Type 1} → statement M
 index-facts-spec =
     tie.close
-    (tie.spec Inv-loop μ-loop loop-holds (λ c. search needs) returns (λ c κs. search needs) (λ c. search needs) (λ c. search needs) (λ c. search needs)
-    (λ c. search needs) (λ c. search needs) (λ c. search needs) (λ c. search needs) (λ c. search needs) slice-write-index-2 (λ c. search needs)
-    (λ c. search needs) loop-again (λ c. search needs) returns-2)
+    (tie.spec Inv-loop μ-loop loop-holds (λ c. search needs) (λ c. search needs) returns (λ c κs. search needs) (λ c. search needs) (λ c. search needs) (λ c. search needs) (λ c. search needs) (λ c. search needs) (λ c. search needs) (λ c. search needs) slice-write-index-2 (λ c. search needs) (λ c. search needs) loop-again (λ c. search needs) returns-2)

@@ -1,8 +1,8 @@
 use mathlib.Core.Path.{refl}
-use Rattle.valuing.specs.Index.{hashStart}
+use Rattle.fact_index.specs.Index.{hashStart}
 use borrow.Author.Needs.{needs}
-use Rattle.valuing.proofs.hash_start.Statement.{statement}
-use Rattle.valuing.proofs.hash_start.Tie as tie
+use Rattle.fact_index.proofs.hash_start.Statement.{statement}
+use Rattle.fact_index.proofs.hash_start.Tie as tie
 
 returns : tie.Need-returns
 unfolding hashStart

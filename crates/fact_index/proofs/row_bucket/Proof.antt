@@ -1,11 +1,12 @@
 use Prim.Native.Nat.{_-_, _*_, _≤_}
 use lib.ListN.{getD}
 use Rattle.state.specs.Lent.{factWords}
-use Rattle.valuing.specs.Index.{objectAt}
-use Rattle.valuing.proofs.FactLaws.{Hashing, hashing-start, row-on, row-bucket}
+use Rattle.fact_index.specs.Index.{objectAt}
+use Rattle.fact_index.specs.IndexLaws.{Hashing, hashing-start}
+use Rattle.fact_index.proofs.FactLaws.{row-on, row-bucket}
 use borrow.Author.Needs.{needs}
-use Rattle.valuing.proofs.row_bucket.Statement.{statement}
-use Rattle.valuing.proofs.row_bucket.Tie as tie
+use Rattle.fact_index.proofs.row_bucket.Statement.{statement}
+use Rattle.fact_index.proofs.row_bucket.Tie as tie
 
 abbrev Inv-loop : tie.InvT-loop
 Inv-loop arities facts i p k h₀ j₀ h j = (j ≤ k) × Hashing (getD facts (i * factWords) 0) (objectAt facts i) j h

@@ -1,0 +1,5 @@
+-- An index of facts: how a fact is found among lent rows. Nobody must believe these; which facts there are is said in crate state.
+pub mod Index
+-- laws
+pub mod IndexLaws
+pub mod SearchLaws
