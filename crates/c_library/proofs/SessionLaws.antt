@@ -23,13 +23,18 @@ use Rattle.answers.specs.declared.Put.the-variants.{At, Full}
 use Rattle.answers.specs.Writing.{mostBytes, putAnswer, putResult, Placed}
 use Rattle.session.specs.declared.Part.{Part}
 use Rattle.session.specs.declared.Part.the-variants.{Model, Run}
-use Rattle.session.specs.Texts.{hasBytes, linesOf, Progress, unfinished, closing, afterLine}
-use Rattle.facts.specs.Words.{stateWords}
+use Rattle.session.specs.Session.{Session, opening}
+use Rattle.session.specs.Good.{GoodSession}
+use Rattle.session.specs.Replies.{withLive, reply}
+use Rattle.session.specs.Texts.{hasBytes, linesOf, Progress, replyBytes, unfinished, closing, afterLine}
+use Rattle.facts.specs.Words.{stateWords, GoodLive, Remade}
+use Rattle.facts.specs.WordLaws.{reindexed-live}
 use Rattle.memory.specs.declared.Numbers.{Numbers}
-use Rattle.memory.specs.Memory.{Memory, memoryOf, sessionOf, Kept, workWords}
+use Rattle.memory.specs.Memory.{Memory, memoryOf, sessionOf, IsSession, Kept, workWords}
+use Rattle.memory.specs.StoredLaws.{stored-state}
 use Rattle.memory.specs.Saving.{numberWords, partWord, flagWord, savedWords, numbersAt, linesAt, metAt}
 use Rattle.memory.specs.SavingLaws.{saved-numbers, saved-lines, saved-met}
-use Rattle.lines.specs.Lines.{Opening, Opened}
+use Rattle.lines.specs.Lines.{Opened}
 use Rattle.texts.specs.declared.Sent.{Sent}
 use Rattle.answers.specs.Answers.{answerLine}
 use Rattle.texts.specs.declared.Ran.{Ran}
@@ -101,7 +106,12 @@ module _ (numbers arities state : List ℕ) {b : Bool} (q : b ≡ hasRoom (lengt
         does =
             subst (λ (x : Bool). OpenOrLeft x numbers arities state numbers′ arities′ state′) (sym e ∙ q)
             (record {
-              session = λ names listings table value rooms. subst (λ (m : Numbers). Opening m (memoryOf names arities′ listings table state′ value)) (sym z) (o .says names listings table value rooms);
+              session = λ names listings table value rooms.
+                  subst (λ (m : Numbers). sessionOf m (memoryOf names arities′ listings table state′ value) ≡ opening) (sym z) (o .says names listings table value rooms .session);
+              again = λ names listings table value rooms.
+                  let k = o .says names listings table value rooms .kept in
+                  subst (λ (m : Numbers). isSession m (memoryOf names arities′ listings table state′ value) ≡ true) (sym z)
+                  (decided (session-is n (memoryOf names arities′ listings table state′ value)) (record { stored = k .stored; good = k .good }));
               lines = ap linesAt u ∙ saved-lines n 0 false (drop numberWords numbers);
               met = ap metAt u ∙ saved-met n 0 false (drop numberWords numbers);
               behind = ap (drop numberWords) u ∙ saved-behind n 0 false (drop numberWords numbers);
@@ -254,7 +264,7 @@ pub record Given (numbers : List ℕ) (w : Memory) (work answer : List ℕ) (mor
   pub numbers-room : numberWords ≤ length numbers
   pub work-room : workWords ≤ length work
   pub answer-room : mostBytes ≤ length answer
-  pub kept : Kept (numbersAt numbers) w
+  pub session : IsSession (numbersAt numbers) w
   pub lines : linesAt numbers + more ≤ mostLines
   pub both : (isOpen numbers w more && canAnswer work answer) ≡ true
 
@@ -264,13 +274,13 @@ module _ (numbers : List ℕ) (w : Memory) (work answer : List ℕ) (more : ℕ)
       let x = entered (isOpen numbers w more) (canAnswer work answer) e z in
       let tables : Bool =
       hasRooms (length numbers) (length (w .names)) (length (w .arities)) (length (w .listings)) (length (w .table)) (length (w .state)) (length (w .value)) in
-      let session = and-right (isPlain numbers) _ (and-right tables _ (x .0)) in
+      let rest = and-right (isPlain numbers) _ (and-right tables _ (x .0)) in
       record {
         numbers-room = leb-true numberWords (length numbers) (and-left (leb numberWords (length numbers)) _ (and-left tables _ (x .0)));
         work-room = leb-true workWords (length work) (and-left (leb workWords (length work)) _ (x .1));
         answer-room = leb-true mostBytes (length answer) (and-right (leb workWords (length work)) _ (x .1));
-        kept = session-is (numbersAt numbers) w .yes (and-left (isSession (numbersAt numbers) w) _ session);
-        lines = leb-true (linesAt numbers + more) mostLines (and-right (isSession (numbersAt numbers) w) _ session);
+        session = session-is (numbersAt numbers) w .yes (and-left (isSession (numbersAt numbers) w) _ rest);
+        lines = leb-true (linesAt numbers + more) mostLines (and-right (isSession (numbersAt numbers) w) _ rest);
         both = ap₂ _&&_ (x .0) (x .1);
       }
 
@@ -307,10 +317,45 @@ pub position-is : (numbers : List ℕ) {n : Numbers} {l : ℕ} {m : Bool} → n 
     → record { numbers = n; lines = l; met = m; end = 0 } ≡ positionAt numbers
 position-is numbers e f g = λ i. record { numbers = e i; lines = f i; met = g i; end = 0 }
 
--- ===== A line =====
+-- ===== The index of the facts, made anew =====
 
-pub line-kept : {numbers : List ℕ} {w : Memory} {work answer : List ℕ} {more : ℕ} {p : Position} → Given numbers w work answer more → p ≡ positionAt numbers → Kept (p .numbers) w
-line-kept {w = w} g e = subst (λ (q : Position). Kept (q .numbers) w) (sym e) (g .kept)
+-- the words with other words of the state
+abbrev pub withWords : Memory → List ℕ → Memory
+withWords w state = memoryOf (w .names) (w .arities) (w .listings) (w .table) state (w .value)
+
+module _ {n : Numbers} {w : Memory} {state : List ℕ} (k : IsSession n w) (m : Remade (w .arities) (w .state) (n .live) state) where
+  -- the session is the same
+  remade-session : sessionOf n (withWords w state) ≡ sessionOf n w
+  unfolding sessionOf
+  remade-session = ap (withLive (sessionOf n w)) (reindexed-live (m .stays) (k .stored .live) .0)
+
+  -- and has its index
+  remade-kept : Kept n (withWords w state)
+  remade-kept = record {
+    stored = stored-state state (n .live) (k .stored) (reindexed-live (m .stays) (k .stored .live) .1);
+    good = subst GoodSession (sym remade-session) (k .good);
+    indexed = m .index;
+  }
+
+-- behind a line too
+kept-session : {n : Numbers} {w : Memory} → Kept n w → IsSession n w
+kept-session k = record { stored = k .stored; good = k .good }
+
+module _ {numbers : List ℕ} {w : Memory} {work answer : List ℕ} {more : ℕ} {p : Position} (g : Given numbers w work answer more) (e : p ≡ positionAt numbers) where
+  session-here : IsSession (p .numbers) w
+  session-here = subst (λ (q : Position). IsSession (q .numbers) w) (sym e) (g .session)
+
+  pub line-live : GoodLive (w .state) (p .numbers .live)
+  line-live = session-here .stored .live
+
+  module _ {state : List ℕ} (m : Remade (w .arities) (w .state) (p .numbers .live) state) where
+    pub line-kept : Kept (p .numbers) (withWords w state)
+    line-kept = remade-kept session-here m
+
+    same-session : sessionOf (p .numbers) (withWords w state) ≡ sessionOf (p .numbers) w
+    same-session = remade-session session-here m
+
+-- ===== A line =====
 
 -- a text that goes on
 pub line-few : {numbers : List ℕ} {w : Memory} {work answer : List ℕ} {p : Position} → Given numbers w work answer 1 → p ≡ positionAt numbers → p .lines < mostLines
@@ -331,10 +376,21 @@ module _ {s answer answer′ : List ℕ} {r : Put} (g : mostBytes ≤ length ans
       x .result ∙ ap (λ (b : Bool). cond b (take 0 answer ++ s ++ drop (0 + length s) answer) answer) has-place
       ∙ ap₂ (λ (t : List ℕ) (n : ℕ). t ++ s ++ drop n answer) (take-none answer) (zero-add (length s))
 
+-- words that are one session are answered alike
+sent-as : {s out out′ : List ℕ} {number place : ℕ} {n : Numbers} {w v w′ : Memory} {r : Sent} → sessionOf n v ≡ sessionOf n w
+    → Sends s number n v out place r w′ out′ → Sends s number n w out place r w′ out′
+sent-as {s} {out} {out′} {number} {place} {r = r} e x = record {
+  session = x .session ∙ ap (λ (σ : Session). reply σ number s .session) e;
+  kept = x .kept;
+  placed = subst (λ (σ : Session). Placed out place (replyBytes (reply σ number s)) (r .put) out′) e (x .placed);
+  short = subst (λ (σ : Session). length (replyBytes (reply σ number s)) ≤ mostBytes) e (x .short);
+}
+
 module _ (line : List ℕ) {numbers : List ℕ} {w : Memory} {work answer : List ℕ} (g : Given numbers w work answer 1) {k : ℕ}
     (en : k ≡ entryNumber (isOpen numbers w 1) (canAnswer work answer)) (z : k ≡ 0) where
   module _ (bytes : ℕ) {p : Position} {r : Sent} {m : Bool} {numbers′ : List ℕ} {w′ : Memory} {answer′ : List ℕ} (ep : p ≡ positionAt numbers)
-      (em : m ≡ (p .met || hasBytes line)) (x : Sends line (p .lines + 1) (p .numbers) w answer 0 r w′ answer′)
+      (em : m ≡ (p .met || hasBytes line)) {state : List ℕ} (made : Remade (w .arities) (w .state) (p .numbers .live) state)
+      (x : Sends line (p .lines + 1) (p .numbers) (withWords w state) answer 0 r w′ answer′)
       (u : numbers′ ≡ savedWords (r .numbers) (p .lines + 1) m ++ drop numberWords numbers) {bytes′ : ℕ} (v : bytes′ ≡ putEnd (r .put)) where
     pub line-done : Replies line numbers w work answer bytes 0 numbers′ w′ answer′ bytes′
     unfolding afterLine
@@ -343,7 +399,7 @@ module _ (line : List ℕ) {numbers : List ℕ} {w : Memory} {work answer : List
         let j : p .lines + 1 ≡ suc (linesAt numbers) = add-one (p .lines) ∙ ap (λ (q : Position). suc (q .lines)) ep in
         let y : Sends line (suc (linesAt numbers)) (numbersAt numbers) w answer 0 r w′ answer′ =
         subst (λ (o : Numbers). Sends line (suc (linesAt numbers)) o w answer 0 r w′ answer′) (ap (λ (q : Position). q .numbers) ep)
-        (subst (λ (i : ℕ). Sends line i (p .numbers) w answer 0 r w′ answer′) j x) in
+        (subst (λ (i : ℕ). Sends line i (p .numbers) w answer 0 r w′ answer′) j (sent-as (same-session g ep made) x)) in
         let o : numbersAt numbers′ ≡ r .numbers = ap numbersAt u ∙ saved-numbers (r .numbers) (p .lines + 1) m t in
         record {
           number = sym z ∙ en;
@@ -354,7 +410,7 @@ module _ (line : List ℕ) {numbers : List ℕ} {w : Memory} {work answer : List
                 lines = ap linesAt u ∙ saved-lines (r .numbers) (p .lines + 1) m t ∙ j;
                 met = ap metAt u ∙ saved-met (r .numbers) (p .lines + 1) m t ∙ em ∙ ap (λ (q : Position). q .met || hasBytes line) ep;
                 plain = ap isPlain u ∙ saved-plain (r .numbers) (p .lines + 1) m t;
-                again = decided (session-is (numbersAt numbers′) w′) (subst (λ (q : Numbers). Kept q w′) (sym o) (y .kept));
+                again = decided (session-is (numbersAt numbers′) w′) (subst (λ (q : Numbers). IsSession q w′) (sym o) (kept-session (y .kept)));
                 behind = ap (drop numberWords) u ∙ saved-behind (r .numbers) (p .lines + 1) m t;
                 buffer = placed-buffer (g .answer-room) (y .short) (y .placed);
                 byte-count = v ∙ placed-end (g .answer-room) (y .short) (y .placed);
@@ -363,11 +419,11 @@ module _ (line : List ℕ) {numbers : List ℕ} {w : Memory} {work answer : List
 
 -- ===== A block of lines =====
 
-pub lines-answerable : {block numbers : List ℕ} {w : Memory} {work answer : List ℕ} {p : Position} → Given numbers w work answer (length block) → p ≡ positionAt numbers
-    → Answerable block 0 p w work answer
-lines-answerable g e = record {
+pub lines-answerable : {block numbers : List ℕ} {w : Memory} {work answer : List ℕ} {p : Position} {state : List ℕ} → Given numbers w work answer (length block)
+    → p ≡ positionAt numbers → Remade (w .arities) (w .state) (p .numbers .live) state → Answerable block 0 p (withWords w state) work answer
+lines-answerable g e m = record {
   inside = omega arith;
-  going = record { kept = line-kept g e; within = omega (arith, ap (λ (q : Position). q .end) e) };
+  going = record { kept = line-kept g e m; within = omega (arith, ap (λ (q : Position). q .end) e) };
   lines = omega (arith, g .lines, ap (λ (q : Position). q .lines) e);
   work-room = g .work-room;
 }
@@ -380,10 +436,17 @@ progress-here numbers w answer =
 
 module _ {block numbers : List ℕ} {w : Memory} {work answer : List ℕ} (g : Given numbers w work answer (length block)) {k : ℕ}
     (en : k ≡ entryNumber (isOpen numbers w (length block)) (canAnswer work answer)) (z : k ≡ 0) {p : Position} (ep : p ≡ positionAt numbers)
-    {r : Answered} {w′ : Memory} {answer′ : List ℕ}
-    (y : Reaches block 0 mostBytes (progressOf p w answer) (wholeOf block 0 mostBytes (progressOf p w answer) answer) answer r w′ answer′) where
+    {state : List ℕ} (made : Remade (w .arities) (w .state) (p .numbers .live) state) {r : Answered} {w′ : Memory} {answer′ : List ℕ}
+    (reaches : Reaches block 0 mostBytes (progressOf p (withWords w state) answer) (wholeOf block 0 mostBytes (progressOf p (withWords w state) answer) answer) answer r w′ answer′) where
   abbrev x : Whole
   x = answeredLines block numbers w answer
+
+  progress-same : progressOf p (withWords w state) answer ≡ progressOf p w answer
+  unfolding progressOf
+  progress-same = λ i. record { session = same-session g ep made i; lines = p .lines; met = p .met; bytes = take (p .end) answer }
+
+  y : Reaches block 0 mostBytes (progressOf p w answer) (wholeOf block 0 mostBytes (progressOf p w answer) answer) answer r w′ answer′
+  y = subst (λ (q : Progress). Reaches block 0 mostBytes q (wholeOf block 0 mostBytes q answer) answer r w′ answer′) progress-same reaches
 
   whole-here : wholeOf block 0 mostBytes (progressOf p w answer) answer ≡ x
   whole-here =
@@ -419,7 +482,7 @@ module _ {block numbers : List ℕ} {w : Memory} {work answer : List ℕ} (g : G
           lines = ap linesAt u ∙ saved-lines (r .position .numbers) (r .position .lines) (r .position .met) t ∙ ap (λ (q : Progress). q .lines) reached;
           met = ap metAt u ∙ saved-met (r .position .numbers) (r .position .lines) (r .position .met) t ∙ ap (λ (q : Progress). q .met) reached;
           plain = ap isPlain u ∙ saved-plain (r .position .numbers) (r .position .lines) (r .position .met) t;
-          again = decided (session-is (numbersAt numbers′) w′) (subst (λ (q : Numbers). Kept q w′) (sym numbers-are) (y .going .kept));
+          again = decided (session-is (numbersAt numbers′) w′) (subst (λ (q : Numbers). IsSession q w′) (sym numbers-are) (kept-session (y .going .kept)));
           behind = ap (drop numberWords) u ∙ saved-behind (r .position .numbers) (r .position .lines) (r .position .met) t;
           buffer = buffer-is;
           byte-count = end-is;

@@ -6,10 +6,9 @@ use Prim.Native.Nat.{ℕ}
 use lib.ListN.{length, drop}
 use Rattle.session.specs.Session.{Session}
 use Rattle.session.specs.Texts.{Progress, linesOf}
-use Rattle.memory.specs.Memory.{Memory, sessionOf}
-use Rattle.memory.specs.Saving.{numbersAt, linesAt, metAt}
+use Rattle.memory.specs.Memory.{Memory}
 use Rattle.answers.specs.Writing.{mostBytes}
-use Rattle.texts.specs.Whole.{Whole, wholeFrom}
+use Rattle.texts.specs.Whole.{wholeFrom}
 use Rattle.c_library.specs.Sessions.{canAnswer, isOpen, progressAt, IsAnswered, DoneOrLeft, answeredLines, AreAnswered, AreUntouched, RepliesAll}
 
 progress-same : {a b : Session} {k l : ℕ} {p q : Bool} → a ≡ b → k ≡ l → p ≡ q

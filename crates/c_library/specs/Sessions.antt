@@ -14,10 +14,10 @@ use Rattle.answers.specs.declared.Put.{Put}
 use Rattle.answers.specs.declared.Put.the-variants.{At, Full}
 use Rattle.answers.specs.Writing.{mostBytes}
 use Rattle.texts.specs.declared.Position.{Position}
+use Rattle.session.specs.Session.{opening}
 use Rattle.session.specs.Texts.{Progress, afterLine, linesOf, closing}
 use Rattle.memory.specs.Memory.{Memory, memoryOf, sessionOf, Rooms, workWords}
 use Rattle.memory.specs.Saving.{numberWords, numbersAt, linesAt, metAt}
-use Rattle.lines.specs.Lines.{Opening}
 use Rattle.texts.specs.Sending.{mostLines}
 use Rattle.texts.specs.Whole.{Whole, wholeFrom}
 use Rattle.restoring.specs.Restoring.{isSession}
@@ -29,10 +29,12 @@ use Rattle.c_library.specs.Answers.{roomNumber, entryNumber}
 abbrev pub hasRoom : ℕ → ℕ → ℕ → Bool
 hasRoom numbers arities state = leb numberWords numbers && (eqb arities predicateCount && eqb state stateWords)
 
--- the session is open, whatever the other words are, if they have their room; the words behind the numbers stay
+-- the words are the opening session, and pass the test of a session's, whatever the other words are, if they have their room; the words behind the numbers stay
 pub record IsOpen (numbers arities state numbers′ arities′ state′ : List ℕ) : Type 0 where
   pub session : (names listings table value : List ℕ) → Rooms (memoryOf names arities listings table state value)
-      → Opening (numbersAt numbers′) (memoryOf names arities′ listings table state′ value)
+      → sessionOf (numbersAt numbers′) (memoryOf names arities′ listings table state′ value) ≡ opening
+  pub again : (names listings table value : List ℕ) → Rooms (memoryOf names arities listings table state value)
+      → isSession (numbersAt numbers′) (memoryOf names arities′ listings table state′ value) ≡ true
   pub lines : linesAt numbers′ ≡ 0
   pub met : metAt numbers′ ≡ false
   pub behind : drop numberWords numbers′ ≡ drop numberWords numbers

@@ -579,6 +579,9 @@ pub extern "C" fn yindolve_line(
         return refusal;
     }
     let p = position(numbers);
+    let n = p.numbers;
+    // In words from outside the index of the facts may be anything.
+    facts::remake_index(arities, state, n.live);
     let number = p.lines + 1;
     let met = texts::met_behind(p.met, line);
     let sent = texts::reply_line(
@@ -636,6 +639,9 @@ pub extern "C" fn yindolve_lines(
         return refusal;
     }
     let first = position(numbers);
+    let n = first.numbers;
+    // In words from outside the index of the facts may be anything.
+    facts::remake_index(arities, state, n.live);
     let reached = texts::answer_whole(
         block,
         0,

@@ -23,7 +23,8 @@ use Rattle.events.specs.Events.{firstWord}
 use Rattle.events.specs.Front.{nextAt, eventsOf}
 use Rattle.events.specs.Contents.{keyIn, numberIn, wordAt, keysIn}
 use Rattle.answers.specs.declared.Answer.the-variants.{Refused as RefusedAs, Nothing}
-use Rattle.session.specs.declared.Part.the-variants.{Run}
+use Rattle.session.specs.declared.Part.{Part}
+use Rattle.session.specs.declared.Part.the-variants.{Model, Run}
 use Rattle.session.specs.Session.{Names, refuseIf}
 use Rattle.session.specs.Declaring.{Vocabulary, constantLine, predicateLine, isTotal, totalLine, isDiscount, discountLine, repeated, actionLine}
 use Rattle.session.specs.Replies.{withNames, withVocabulary, withTotal, withDiscount, withAction, done, wordsOf}
@@ -32,12 +33,13 @@ use Rattle.declare.specs.declared.Declared.{Declared}
 use Rattle.declare.specs.declared.Declared.the-variants.{Done, Refused}
 use Rattle.declare.specs.Tables.{namesOf, Named, Naming, vocabularyOf, GoodVocabulary, Worded, Wording}
 use Rattle.facts.specs.Words.{liveOf}
+use Rattle.facts.specs.WordLaws.{index-quiet}
 use Rattle.model.specs.declared.Head.{Head}
 use Rattle.model.specs.Layout.{modelOf}
-use Rattle.modelling.specs.Building.{Building, withActions, newAction, ActionRoom, ActionAdded}
+use Rattle.model_entry.specs.Building.{Building, withActions, newAction, ActionRoom, ActionAdded}
 use Rattle.planner.specs.Run.{heldIn}
 use Rattle.memory.specs.declared.Numbers.{Numbers}
-use Rattle.memory.specs.Memory.{Memory, memoryOf, sessionOf, Stored}
+use Rattle.memory.specs.Memory.{Memory, memoryOf, sessionOf, Stored, Ready}
 use Rattle.memory.specs.WordLaws.{first-is, second-is, rest-is}
 use Rattle.memory.specs.QuietLaws.{quiet-refused, quiet-done, no-run}
 use Rattle.declaration_lines.specs.Lines.{withTables, withWeights, ForAction, ConstantSays, PredicateSays, TotalSays, DiscountSays, ActionSays}
@@ -106,7 +108,7 @@ module _ (s : List ℕ) (n : Numbers) {names names′ : List ℕ} {i : ℕ} {x :
         says = λ ar l t st v r.
             quiet-done (withNames (sessionOf n (memoryOf names ar l t st v))) constantOf refl (h .0) refl
             (stored-tables names′ ar t c (n .head) (r .stored) (no-run refl r) (record { names = h .1; arities = r .stored .vocabulary .arities })
-            (r .stored .building) refl refl);
+            (r .stored .building) refl refl) (r .indexed);
       })
 
   pub constant-refused : {number : ℕ} {why : Refusal} → d ≡ Refused why
@@ -116,10 +118,19 @@ module _ (s : List ℕ) (n : Numbers) {names names′ : List ℕ} {i : ℕ} {x :
       let h = constant-named (Refused why) e in
       subst (λ y. ConstantSays s number n names (record { numbers = n; answer = RefusedAs why number }) y) (sym (h .1))
       (record {
-        says = λ ar l t st v r. quiet-refused (withNames (sessionOf n (memoryOf names ar l t st v))) constantOf refl (h .0) (r .stored);
+        says = λ ar l t st v r. quiet-refused (withNames (sessionOf n (memoryOf names ar l t st v))) constantOf refl (h .0) (r .stored) (r .indexed);
       })
 
 -- ===== (predicate n arity) =====
+
+-- it stands in the model, where there are no objects
+no-objects : {s : List ℕ} {n : Numbers} {w : Memory} → Ready Predicate s n w → n .live .objects ≡ 0
+unfolding sessionOf
+no-objects {s} {n} {w} r = r .good .quiet (go (n .part) refl)
+  where
+    go : (p : Part) → n .part ≡ p → n .part ≡ Model
+    go Model e = e
+    go Run e = absurd (no-run refl r e)
 
 module _ (s : List ℕ) (n : Numbers) {names ar names′ ar′ : List ℕ} {i : ℕ} {x y : Next} {k : Key} {a : ℕ} {d : Declared}
     (p : i ≡ firstWord Predicate) (q : x ≡ nextAt s i) (u : k ≡ keyIn (x .event)) (w : y ≡ nextAt s (x .place)) (z : a ≡ numberIn (y .event))
@@ -144,7 +155,7 @@ module _ (s : List ℕ) (n : Numbers) {names ar names′ ar′ : List ℕ} {i : 
       (record {
         says = λ l t st v r.
             quiet-done (withVocabulary (sessionOf n (memoryOf names ar l t st v))) predicateOf refl (h .0) refl
-            (stored-tables names′ ar′ t c (n .head) (r .stored) (no-run refl r) (h .1) (r .stored .building) refl refl);
+            (stored-tables names′ ar′ t c (n .head) (r .stored) (no-run refl r) (h .1) (r .stored .building) refl refl) (index-quiet (no-objects r) (r .indexed));
       })
 
   pub predicate-refused : {number : ℕ} {why : Refusal} → d ≡ Refused why
@@ -154,7 +165,7 @@ module _ (s : List ℕ) (n : Numbers) {names ar names′ ar′ : List ℕ} {i : 
       let h = predicate-worded (Refused why) e in
       rw (h .1, h .2)
       (record {
-        says = λ l t st v r. quiet-refused (withVocabulary (sessionOf n (memoryOf names ar l t st v))) predicateOf refl (h .0) (r .stored);
+        says = λ l t st v r. quiet-refused (withVocabulary (sessionOf n (memoryOf names ar l t st v))) predicateOf refl (h .0) (r .stored) (r .indexed);
       })
 
 -- ===== (total W) =====
@@ -174,14 +185,14 @@ module _ (s : List ℕ) {i : ℕ} {x : Next} {w : ℕ} {b : Bool}
       (record {
         says = λ names ar l tb st v r.
             quiet-done (withTotal (sessionOf n (memoryOf names ar l tb st v))) (totalLine (numberIn (wordAt (wordsOf Total s) 0))) refl (total-of true e) refl
-            (stored-weights true (n .discount) w (n .head .numerator) (n .head .denominator) (r .stored) (no-run refl r));
+            (stored-weights true (n .discount) w (n .head .numerator) (n .head .denominator) (r .stored) (no-run refl r)) (r .indexed);
       })
 
   pub total-refused : {number : ℕ} {n : Numbers} → b ≡ false → TotalSays s number n (record { numbers = n; answer = RefusedAs Range number })
   unfolding done sessionOf
   total-refused {number} {n} e = record {
     says = λ names ar l tb st v r.
-        quiet-refused (withTotal (sessionOf n (memoryOf names ar l tb st v))) (totalLine (numberIn (wordAt (wordsOf Total s) 0))) refl (total-of false e) (r .stored);
+        quiet-refused (withTotal (sessionOf n (memoryOf names ar l tb st v))) (totalLine (numberIn (wordAt (wordsOf Total s) 0))) refl (total-of false e) (r .stored) (r .indexed);
   }
 
 -- ===== (discount G D) =====
@@ -205,14 +216,14 @@ module _ (s : List ℕ) {i : ℕ} {x y : Next} {g d : ℕ} {b : Bool} (p : i ≡
       (record {
         says = λ names ar l tb st v r.
             quiet-done (withDiscount (sessionOf n (memoryOf names ar l tb st v))) discountOf refl (discount-of true e) refl
-            (stored-weights (n .total) true (n .head .total) g d (r .stored) (no-run refl r));
+            (stored-weights (n .total) true (n .head .total) g d (r .stored) (no-run refl r)) (r .indexed);
       })
 
   pub discount-refused : {number : ℕ} {n : Numbers} → b ≡ false → DiscountSays s number n (record { numbers = n; answer = RefusedAs Range number })
   unfolding done sessionOf
   discount-refused {number} {n} e = record {
     says = λ names ar l tb st v r.
-        quiet-refused (withDiscount (sessionOf n (memoryOf names ar l tb st v))) discountOf refl (discount-of false e) (r .stored);
+        quiet-refused (withDiscount (sessionOf n (memoryOf names ar l tb st v))) discountOf refl (discount-of false e) (r .stored) (r .indexed);
   }
 
 -- ===== (action n !p ..) =====
@@ -263,7 +274,7 @@ module _ (s : List ℕ) (n : Numbers) {names names′ : List ℕ} {i : ℕ} {x :
       let h = action-named (Refused why) e in
       subst (λ y. ActionSays s number n names table (record { numbers = n; answer = RefusedAs why number }) y table) (sym (h .1))
       (record {
-        says = λ ar l st v r. quiet-refused (withAction (sessionOf n (memoryOf names ar l table st v))) actionOf refl (h .0) (r .stored);
+        says = λ ar l st v r. quiet-refused (withAction (sessionOf n (memoryOf names ar l table st v))) actionOf refl (h .0) (r .stored) (r .indexed);
       })
 
   module _ {table table′ : List ℕ} {c : Counts} {h : Head} (e : d ≡ Done c) (a : ActionAdded table (n .head) (c .parameters) table′ h) where
@@ -294,5 +305,5 @@ module _ (s : List ℕ) (n : Numbers) {names names′ : List ℕ} {i : ℕ} {x :
           says = λ ar l st v r.
               quiet-done (withAction (sessionOf n (memoryOf names ar l table st v))) actionOf refl (y .0) (action-session ar l st v)
               (stored-tables names′ ar table′ c h (r .stored) (no-run refl r) (record { names = y .1; arities = r .stored .vocabulary .arities })
-              (a .building l (r .stored .building)) (ap (λ (z : Head). z .words) (a .answer)) (ap (λ (z : Head). z .«reward_words») (a .answer)));
+              (a .building l (r .stored .building)) (ap (λ (z : Head). z .words) (a .answer)) (ap (λ (z : Head). z .«reward_words») (a .answer))) (r .indexed);
         })

@@ -11,7 +11,7 @@ use Rattle.events.specs.Front.{nextAt, eventsOf}
 use Rattle.declare.specs.declared.Counts.{Counts}
 use Rattle.declare.specs.Tables.{GoodNames, GoodVocabulary}
 use Rattle.model.specs.declared.Head.{Head}
-use Rattle.modelling.specs.Building.{Spanned}
+use Rattle.model_entry.specs.Building.{Spanned}
 use Rattle.memory.specs.declared.Numbers.{Numbers}
 use Rattle.memory.specs.declared.Said.{Said}
 use Rattle.memory.specs.Memory.{memoryOf, Ready, Answers}

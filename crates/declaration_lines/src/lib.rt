@@ -173,7 +173,7 @@ pub fn action(
     let key = events::key_in(event);
     match declare::action(names, n.counts, key, line, next.place, work) {
         Declared::Done(counts) => {
-            let head = modelling::add_action(table, n.head, counts.parameters as u64);
+            let head = model_entry::add_action(table, n.head, counts.parameters as u64);
             Said {
                 numbers: with_tables(n, counts, head),
                 answer: Answer::Nothing,

@@ -30,7 +30,7 @@ use Rattle.session.specs.Session.{Session}
 use Rattle.session.specs.Running.{noKey, stateIn, bestRead}
 use Rattle.session.specs.Replies.{bestSays, done}
 use Rattle.declare.specs.Tables.{namesOf}
-use Rattle.facts.specs.Words.{factsBase, part, liveOf}
+use Rattle.facts.specs.Words.{factsBase, indexBase, indexWords, part, liveOf}
 use Rattle.model.specs.Layout.{actionAt, modelOf}
 use Rattle.best_move.specs.declared.Chosen.{Chosen}
 use Rattle.best_move.specs.declared.Chosen.the-variants.{Move as TheMove, Refused}
@@ -105,9 +105,11 @@ module _ {n : Numbers} {names ar listings table state value work : List ℕ} (t 
   best-constants-long = sym (length-take-le constantCount state (omega (arith, t .live .room)))
 
   pub best-lent : {ps : List ℕ} → ps ≡ part state factsBase (n .live .facts * factWords)
-      → BestTask ar listings table (n .head) (n .live .objects) (take constantCount state) ps (take (n .held .rows * 3) value) work
+      → BestTask ar listings table (n .head) (n .live .objects) (take constantCount state) ps (part state indexBase indexWords) (take (n .held .rows * 3) value) work
   best-lent f =
-      subst (λ (fs : List ℕ). BestTask ar listings table (n .head) (n .live .objects) (take constantCount state) fs (take (n .held .rows * 3) value) work) (sym f)
+      subst
+      (λ (fs : List ℕ).
+      BestTask ar listings table (n .head) (n .live .objects) (take constantCount state) fs (part state indexBase indexWords) (take (n .held .rows * 3) value) work) (sym f)
       (t .task)
 
 -- ===== What the line is answered =====
@@ -134,11 +136,11 @@ module _ {s : List ℕ} (number : ℕ) {n : Numbers} {w : Memory} (r : Ready K.B
   moved-answers : {i count b c d e : ℕ} {k : Key} → q ≡ TheMove i count b c d e → k ≡ getD (keysAt (w .names) actionsAt (n .counts .actions)) i noKey
       → Answers K.Best s number n w (record { numbers = n; answer = A.Best k count b c d e }) w
   unfolding sessionOf done namesOf
-  moved-answers e p = record { answer = moved-says (sessionOf n w) number O (sym a ∙ e) p; session = same-session (sessionOf n w) number O; stored = r .stored }
+  moved-answers e p = record { answer = moved-says (sessionOf n w) number O (sym a ∙ e) p; session = same-session (sessionOf n w) number O; stored = r .stored; indexed = r .indexed }
 
   refused-answers : {x : Refusal} → q ≡ Refused x → Answers K.Best s number n w (record { numbers = n; answer = A.Refused x number }) w
   unfolding done
-  refused-answers e = record { answer = refused-says (sessionOf n w) number O (sym a ∙ e); session = same-session (sessionOf n w) number O; stored = r .stored }
+  refused-answers e = record { answer = refused-says (sessionOf n w) number O (sym a ∙ e); session = same-session (sessionOf n w) number O; stored = r .stored; indexed = r .indexed }
 
 module _ (n : Numbers) (names ar listings table state value : List ℕ) {ps : List ℕ} (f : ps ≡ part state factsBase (n .live .facts * factWords)) {q : Chosen}
     (a : q

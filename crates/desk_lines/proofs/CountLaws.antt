@@ -138,6 +138,7 @@ module _ (s : List ℕ) (number : ℕ) (n : Numbers) (ar state value : List ℕ)
           answer = lines-says σ number objects (read σ objects) (sym (counted .answer) ∙ f) ∙ sym (ap (λ (y : Reply). y .answer) done-is);
           session = same-session σ number objects (read σ objects) ∙ sym (ap (λ (y : Reply). y .session) done-is);
           stored = r .stored;
+          indexed = r .indexed;
         }
 
     refused-answers : {why : Refusal} → q ≡ Refused why
@@ -149,6 +150,7 @@ module _ (s : List ℕ) (number : ℕ) (n : Numbers) (ar state value : List ℕ)
           answer = refused-says σ number objects (read σ objects) (sym (counted .answer) ∙ f) ∙ sym (ap (λ (y : Reply). y .answer) done-is);
           session = same-session σ number objects (read σ objects) ∙ sym (ap (λ (y : Reply). y .session) done-is);
           stored = r .stored;
+          indexed = r .indexed;
         }
 
     shows : Shown (done (sessionOf n (memoryOf names ar listings tables state value)) number K.Count (wordsOf K.Count s)) table

@@ -20,10 +20,10 @@ use Rattle.declare.specs.declared.Counts.{Counts}
 use Rattle.declare.specs.Tables.{namesOf}
 use Rattle.facts.specs.declared.Live.{Live}
 use Rattle.facts.specs.declared.Tuple.{Tuple}
-use Rattle.facts.specs.Words.{factsBase, part, liveOf, GoodLive, TupleOf}
+use Rattle.facts.specs.Words.{factsBase, part, liveOf, GoodLive, FactIndex, TupleOf}
 use Rattle.model.specs.declared.Head.{Head}
 use Rattle.model.specs.Layout.{actionWords, variantsOf, modelOf, Laid}
-use Rattle.modelling.specs.Building.{variantsBefore, FewVariants}
+use Rattle.model_entry.specs.Building.{variantsBefore, FewVariants}
 use Rattle.replay_step.specs.declared.Stepped.{Stepped}
 use Rattle.replay_step.specs.Stepped.{lentDid, Steps}
 use Rattle.memory.specs.declared.Numbers.{Numbers}
@@ -65,6 +65,7 @@ pub record Finding (names table : List ℕ) (n : Counts) (k v : Key) (o : Tuple)
 pub record Movable (ar listings table : List ℕ) (h : Head) (a v : ℕ) (os state : List ℕ) (l : Live) : Type 0 where
   pub laid : Laid ar listings table h
   pub live : GoodLive state l
+  pub indexed : FactIndex ar state l
   pub lent : isState ar (l .objects) (take constantCount state) (part state factsBase (l .facts * factWords)) ≡ true
   pub count : l .count ≤ highestValue
   pub total : l .total ≤ highestValue

@@ -14,10 +14,10 @@ use Rattle.events.specs.Events.{firstWord}
 use Rattle.session.specs.Replies.{done, wordsOf}
 use Rattle.declare.specs.declared.Counts.{Counts}
 use Rattle.declare.specs.Tables.{GoodNames}
-use Rattle.facts.specs.Words.{factsBase, mostBytes, part, GoodLive}
+use Rattle.facts.specs.Words.{factsBase, indexBase, indexWords, mostBytes, part, GoodLive, FactIndex}
 use Rattle.model.specs.declared.Head.{Head}
 use Rattle.model.specs.Layout.{Laid}
-use Rattle.modelling.specs.Building.{variantsBefore}
+use Rattle.model_entry.specs.Building.{variantsBefore}
 use Rattle.best_move.specs.Chosen.{BestTask}
 use Rattle.memory.specs.declared.Numbers.{Numbers}
 use Rattle.memory.specs.declared.Said.{Said}
@@ -34,7 +34,7 @@ pub record MoveTask (n : Numbers) (names arities listings table state value work
   pub rows : n .held .rows * 3 ≤ length value
   pub task :
       BestTask arities listings table (n .head) (n .live .objects) (take constantCount state) (part state factsBase (n .live .facts * factWords))
-      (take (n .held .rows * 3) value) work
+      (part state indexBase indexWords) (take (n .held .rows * 3) value) work
 
 -- a line, the names declared, a state, a value's listing, and working space
 pub record CountTask (s : List ℕ) (n : Numbers) (arities state value work : List ℕ) : Type 0 where
@@ -56,6 +56,7 @@ pub record LogTask (n : Numbers) (names arities listings table state : List ℕ)
   pub agreed : Agreed table (n .counts) (n .head)
   pub laid : Laid arities listings table (n .head)
   pub live : GoodLive state (n .live)
+  pub indexed : FactIndex arities state (n .live)
   pub lent : isState arities (n .live .objects) (take constantCount state) (part state factsBase (n .live .facts * factWords)) ≡ true
   pub count : n .live .count ≤ highestValue
   pub total : n .live .total ≤ highestValue

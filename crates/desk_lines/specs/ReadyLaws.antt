@@ -1,13 +1,12 @@
 -- What holds where (best), (count n) and (did ..) stand where they may: what their functions require.
 use mathlib.Core.Path.{_≡_, refl, sym, ap₂, _∙_}
-use mathlib.Core.Bool.{Bool, true, false, not}
+use mathlib.Core.Bool.{true}
 use mathlib.Core.List.{List}
 use Prim.Native.Nat.{ℕ, _+_, _*_, _≤_, _<_}
 use native.Mathlib.Omega.{arith}
 use lib.ListN.{length}
-use Rattle.refusal.specs.declared.Refusal.{Refusal}
 use Rattle.refusal.specs.declared.Refusal.the-variants.{Place, Missing}
-use Rattle.refusal.specs.Outcome.{Outcome, ok}
+use Rattle.refusal.specs.Outcome.{ok}
 use Rattle.names.specs.KeyLaws.{length-keys}
 use Rattle.names.specs.Layout.{actionsAt, variantsAt}
 use Rattle.names.specs.ManyLaws.{length-many}
@@ -16,22 +15,19 @@ use Rattle.text.specs.declared.Kind.the-variants.{Best, Count, Did}
 use Rattle.session.specs.declared.Part.{Part}
 use Rattle.session.specs.declared.Part.the-variants.{Model, Run}
 use Rattle.session.specs.declared.Rule.the-variants.{Misplaced}
-use Rattle.session.specs.Session.{Session, refuseIf}
+use Rattle.session.specs.Session.{Session}
 use Rattle.session.specs.Place.{ruleOf}
 use Rattle.session.specs.Replies.{isPlaced, allowed}
 use Rattle.declare.specs.Tables.{namesOf}
 use Rattle.facts.specs.Words.{liveOf}
+use Rattle.facts.specs.WordLaws.{index-all}
 use Rattle.model.specs.Layout.{actionAt, modelOf}
-use Rattle.modelling.specs.NameLaws.{variants-before}
+use Rattle.model_entry.specs.NameLaws.{variants-before}
 use Rattle.memory.specs.declared.Numbers.{Numbers}
 use Rattle.memory.specs.Memory.{Memory, sessionOf, Ready, workWords}
 use Rattle.memory.specs.WordLaws.{line-begins, line-ends}
-use Rattle.memory.specs.RunLaws.{in-run, run-holding, run-within, run-laid, placed-state}
+use Rattle.memory.specs.RunLaws.{in-run, unrefused, placed-objects, run-holding, run-within, run-laid, placed-state}
 use Rattle.desk_lines.specs.Lines.{MoveTask, CountTask, Agreed, DidTask}
-
-there : (x : Refusal) (b : Bool) → _≡_ {A = Outcome (Unit {0})} (refuseIf (not b) x (ok tt)) (ok tt) → b ≡ true
-there x true e = refl
-there x false e = let z : _≡_ {A = ℕ} 0 1 = cc in absurd (omega arith)
 
 -- names and model agree
 ready-agreed : {k : Kind} {s : List ℕ} {n : Numbers} {w : Memory} → Ready k s n w → Agreed (w .table) (n .counts) (n .head)
@@ -54,27 +50,30 @@ ready-some {k} {s} {n} {w} e r = omega (arith, r .good .begun (in-run e r) .some
 
 move-placed : (σ : Session) (p : Part) → allowed σ (ruleOf Best p) ≡ ok tt → isPlaced σ ≡ true
 unfolding allowed
-move-placed σ Run e = there Missing (isPlaced σ) e
+move-placed σ Run e = unrefused Missing (isPlaced σ) e
 move-placed σ Model e = let z : _≡_ {A = ℕ} 0 1 = cc in absurd (omega arith)
 
 pub best-task : {s : List ℕ} {n : Numbers} {w : Memory} {work : List ℕ} → Ready Best s n w → workWords ≤ length work
     → MoveTask n (w .names) (w .arities) (w .listings) (w .table) (w .state) (w .value) work
 unfolding liveOf
-best-task {s} {n} {w} r l = record {
-  named = r .stored .vocabulary .names;
-  actions = ready-agreed r .actions;
-  some = ready-some refl r;
-  live = r .stored .live;
-  rows = r .stored .value-rows;
-  task = record {
-    laid = run-laid refl r;
-    lent = placed-state r (move-placed (sessionOf n w) (n .part) (r .place));
-    objects-few = r .stored .live .objects;
-    value-listing = run-holding refl r .listing;
-    within = run-within refl r;
-    work-room = omega (arith, l);
-  };
-}
+best-task {s} {n} {w} r l =
+    let p = move-placed (sessionOf n w) (n .part) (r .place) in
+    record {
+      named = r .stored .vocabulary .names;
+      actions = ready-agreed r .actions;
+      some = ready-some refl r;
+      live = r .stored .live;
+      rows = r .stored .value-rows;
+      task = record {
+        laid = run-laid refl r;
+        lent = placed-state r p;
+        indexed = index-all (r .stored .live) (placed-objects r p) (r .indexed);
+        objects-few = r .stored .live .objects;
+        value-listing = run-holding refl r .listing;
+        within = run-within refl r;
+        work-room = omega (arith, l);
+      };
+    }
 
 -- ===== (count n) =====
 
@@ -93,7 +92,7 @@ count-task r l = record {
 
 log-placed : (σ : Session) (p : Part) → allowed σ (ruleOf Did p) ≡ ok tt → isPlaced σ ≡ true
 unfolding allowed
-log-placed σ Run e = there Place (isPlaced σ) e
+log-placed σ Run e = unrefused Place (isPlaced σ) e
 log-placed σ Model e = let z : _≡_ {A = ℕ} 0 1 = cc in absurd (omega arith)
 
 pub did-task : {s : List ℕ} {n : Numbers} {w : Memory} → Ready Did s n w → DidTask s n (w .names) (w .arities) (w .listings) (w .table) (w .state)
@@ -106,6 +105,7 @@ did-task {s} {n} {w} r = record {
     agreed = ready-agreed r;
     laid = run-laid refl r;
     live = r .stored .live;
+    indexed = r .indexed;
     lent = placed-state r (log-placed (sessionOf n w) (n .part) (r .place));
     count = r .good .log .count;
     total = r .good .log .total;

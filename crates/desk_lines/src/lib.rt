@@ -59,6 +59,7 @@ pub fn best(
         live.objects,
         &state[..facts::PLACED],
         &state[facts::FACTS_BASE..end],
+        &state[facts::INDEX_BASE..facts::WORDS],
         &value[..rows * 3],
         work,
     );
@@ -147,7 +148,7 @@ fn find_variant(names: &[u64], table: &[u64], actions: usize, a: usize, key: Key
     requires { ⌜ a < actions ⌝ }
     ensures { λ r. ⌜ r ≡ placeOf key (variantKeys (now (names .entry)) (now (table .entry)) a) ⌝ }
 {
-    let before = modelling::variants_before(table, a);
+    let before = model_entry::variants_before(table, a);
     let count = table[a * model::ACTION_WORDS + 1] as usize;
     names::find(names, names::VARIANTS + before * 2, count, key)
 }
@@ -216,6 +217,7 @@ fn step_in(
         live.objects,
         &state[..facts::PLACED],
         &state[facts::FACTS_BASE..end],
+        &state[facts::INDEX_BASE..facts::WORDS],
         live.count,
         live.total,
         objects,
@@ -236,7 +238,7 @@ fn replay(
     live: Live,
 ) -> Told
     requires { ⌜ Movable (now arities) (now listings) (now table) head a v (now objects) (now state) live ⌝ }
-    ensures { λ r. ⌜ Living (didTo (modelOf (now (arities .entry)) (now (listings .entry)) (now (table .entry)) head) (liveOf (now (state .entry)) live)
+    ensures { λ r. ⌜ Living (now (arities .entry)) (didTo (modelOf (now (arities .entry)) (now (listings .entry)) (now (table .entry)) head) (liveOf (now (state .entry)) live)
         (record { action = a; variant = v; objects = now (objects .entry) })) (now (state .entry)) r (now (state .exit)) ⌝ }
 {
     let mut rows = [0u64; facts::FACTS * facts::FACT_WORDS];
@@ -253,7 +255,9 @@ fn replay(
         &mut rows,
     ) {
         Stepped::Done(m, count, total) => {
+            facts::unindex(arities, state, live.facts);
             copy_facts(state, &rows, m * facts::FACT_WORDS);
+            facts::index(arities, state, m);
             Told::Done(Live {
                 objects: live.objects,
                 facts: m,
@@ -281,7 +285,7 @@ fn carry_out(
     requires { ⌜ at ≤ length (now line) ⌝ }
     requires { ⌜ length (now line) ≤ mostBytes ⌝ }
     requires { ⌜ LogTask n (now names) (now arities) (now listings) (now table) (now state) ⌝ }
-    ensures { λ r. ⌜ Living (didLine (modelOf (now (arities .entry)) (now (listings .entry)) (now (table .entry)) (n .head)) (namesOf (now (names .entry)) (n .counts))
+    ensures { λ r. ⌜ Living (now (arities .entry)) (didLine (modelOf (now (arities .entry)) (now (listings .entry)) (now (table .entry)) (n .head)) (namesOf (now (names .entry)) (n .counts))
         (liveOf (now (state .entry)) (n .live)) action variant (numbersIn (eventsOf (drop at (now (line .entry)))))) (now (state .entry)) r (now (state .exit)) ⌝ }
 {
     let live = n.live;

@@ -22,12 +22,13 @@ use Rattle.reading.specs.declared.Opened.the-variants as P
 use Rattle.reading.specs.Reading.{Written, arguments, reading}
 use Rattle.reading.specs.Head.{Head, headNumber, headArguments}
 use Rattle.reading.specs.Callers.{judgedPredicate, PredicateWithin}
+use Rattle.reading.specs.OutcomeLaws.{apart}
 use Rattle.drawing.specs.declared.Built.{Built}
 use Rattle.drawing.specs.declared.Built.the-variants.{Done, Refused}
 use Rattle.build.specs.Machine.{built}
 use Rattle.answers.specs.declared.Answer.the-variants as A
 use Rattle.session.specs.Session.{Names, Session}
-use Rattle.session.specs.Modelling.{mostModelRows, rowsWith, outcomeOf, namesFor, isSome, truthsNow, lastVariant, withTruthAt, truthRead, withTruth, becomesLine}
+use Rattle.session.specs.ModelLines.{mostModelRows, rowsWith, namesFor, isSome, truthsNow, lastVariant, withTruthAt, truthRead, withTruth, becomesLine}
 use Rattle.session.specs.Replies.{done, quietly, wordsOf}
 use Rattle.declare.specs.Tables.{namesOf, GoodVocabulary}
 use Rattle.facts.specs.Words.{liveOf}
@@ -35,12 +36,12 @@ use Rattle.steps.specs.GivenLaws.{then-then, then-same}
 use Rattle.planner.specs.Run.{heldIn}
 use Rattle.model.specs.declared.Head.{Head as ModelHead}
 use Rattle.model.specs.Layout.{modelOf}
-use Rattle.modelling.specs.Building.{withActions, RowsRoom, TruthRoom, TruthAdded}
+use Rattle.model_entry.specs.Building.{withActions, RowsRoom, TruthRoom, TruthAdded}
 use Rattle.memory.specs.declared.Numbers.{Numbers}
 use Rattle.memory.specs.Memory.{Memory, memoryOf, sessionOf, Ready}
 use Rattle.drawing.specs.Drawing.{drawn, Draws}
 use Rattle.diagram_lines.specs.Lines.{roomed, lowered, truthNumber, truthOf, TruthOpens, BecomesReady, BecomesSays}
-use Rattle.diagram_lines.proofs.RoomLaws.{unlike, roomed-ok, Drew, draws-refused, draws-done, drew-diagram, drew-canonical, drew-some, drew-room}
+use Rattle.diagram_lines.proofs.RoomLaws.{roomed-ok, Drew, draws-refused, draws-done, drew-diagram, drew-canonical, drew-some, drew-room}
 use Rattle.diagram_lines.proofs.LineLaws.{line-refused, line-accepted, numbersWith, Grown, grown-stored}
 
 -- ===== Read =====
@@ -70,16 +71,16 @@ module _ (n : Names) (ar : List ℕ) (truths : Truths) (r : ℕ) (es : List Even
   checks p d = cond (leafAbove 1 d) (refused Truth) (cond (ltb mostModelRows (rowsWith r d)) (refused Space) (told p d))
 
   abbrev words : Head → Outcome Written
-  words h = outcomeOf (reading (namesFor n ar Only (n .parameters)) (h .rest) (arguments (h .variables)))
+  words h = reading (namesFor n ar Only (n .parameters)) (h .rest) (arguments (h .variables))
 
-  behind : (p : ℕ) → andThen (outcomeOf (headArguments (getD ar p 0) es)) (λ h. andThen (words h) (λ w. andThen (built (w .operations)) (checks p)))
+  behind : (p : ℕ) → andThen (headArguments (getD ar p 0) es) (λ h. andThen (words h) (λ w. andThen (built (w .operations)) (checks p)))
       ≡ andThen (truthOf n ar p r es) (told p)
   unfolding truthOf drawn
   behind p =
-      then-same (outcomeOf (headArguments (getD ar p 0) es)) (λ (h : Head). andThen (words h) (λ w. andThen (built (w .operations)) (checks p)))
+      then-same (headArguments (getD ar p 0) es) (λ (h : Head). andThen (words h) (λ w. andThen (built (w .operations)) (checks p)))
       (λ (h : Head). andThen (roomed false r (lowered (andThen (words h) (λ w. built (w .operations))))) (told p))
       (λ (h : Head). sym (then-then (words h) (λ (w : Written). built (w .operations)) (checks p)) ∙ checked p r (andThen (words h) (λ w. built (w .operations))))
-      ∙ sym (then-then (outcomeOf (headArguments (getD ar p 0) es)) (λ (h : Head). roomed false r (lowered (andThen (words h) (λ w. built (w .operations))))) (told p))
+      ∙ sym (then-then (headArguments (getD ar p 0) es) (λ (h : Head). roomed false r (lowered (andThen (words h) (λ w. built (w .operations))))) (told p))
 
   pick-then : (b : Bool) (p : ℕ) → cond b (refused Name) (andThen (truthOf n ar p r es) (told p))
       ≡ andThen (cond b (refused Name) (ok p)) (λ q. andThen (truthOf n ar q r es) (told q))
@@ -89,22 +90,22 @@ module _ (n : Names) (ar : List ℕ) (truths : Truths) (r : ℕ) (es : List Even
   truth-read : truthRead n ar truths r es ≡ andThen (truthNumber n truths es) (λ p. andThen (truthOf n ar p r es) (told p))
   unfolding truthRead truthNumber
   truth-read =
-      then-same (outcomeOf (headNumber (n .predicates) es))
+      then-same (headNumber (n .predicates) es)
       (λ (p : ℕ). cond (isSome (truths p)) (refused Name)
-      (andThen (outcomeOf (headArguments (getD ar p 0) es)) (λ h. andThen (words h) (λ w. andThen (built (w .operations)) (checks p)))))
+      (andThen (headArguments (getD ar p 0) es) (λ h. andThen (words h) (λ w. andThen (built (w .operations)) (checks p)))))
       (λ (p : ℕ). andThen (cond (isSome (truths p)) (refused Name) (ok p)) (λ q. andThen (truthOf n ar q r es) (told q)))
       (λ (p : ℕ). ap (cond (isSome (truths p)) (refused Name)) (behind p) ∙ pick-then (isSome (truths p)) p)
-      ∙ sym (then-then (outcomeOf (headNumber (n .predicates) es)) (λ (p : ℕ). cond (isSome (truths p)) (refused Name) (ok p))
+      ∙ sym (then-then (headNumber (n .predicates) es) (λ (p : ℕ). cond (isSome (truths p)) (refused Name) (ok p))
       (λ (p : ℕ). andThen (truthOf n ar p r es) (told p)))
 
 truth-few : (n : Names) (ar : List ℕ) (p r : ℕ) (es : List Event) {d : Diagram} → truthOf n ar p r es ≡ ok d → r + length (rows d) ≤ mostModelRows
 unfolding truthOf
-truth-few n ar p r es {d} e = go (outcomeOf (headArguments (getD ar p 0) es)) e
+truth-few n ar p r es {d} e = go (headArguments (getD ar p 0) es) e
   where
     go : (o : Outcome Head) → andThen o (λ h. roomed false r (lowered (drawn (namesFor n ar Only (n .parameters)) (h .rest) (h .variables)))) ≡ ok d
         → r + length (rows d) ≤ mostModelRows
     go (ok h) f = roomed-ok false r (lowered (drawn (namesFor n ar Only (n .parameters)) (h .rest) (h .variables))) d f .room
-    go (refused w) f = unlike f
+    go (refused w) f = absurd (apart f)
 
 -- ===== Answered =====
 
@@ -161,12 +162,12 @@ module _ (s : List ℕ) (n : Numbers) (names ar listings table : List ℕ) where
     becomes-unopened number e = record {
       says = λ state value q.
           line-refused number q (line-is number state value)
-          (stops number state value (sym (x .answer ar listings) ∙ ap (λ (y : Opened). outcomeOf (judgedPredicate y)) e));
+          (stops number state value (sym (x .answer ar listings) ∙ ap judgedPredicate e));
     }
 
     module _ {p : ℕ} (e : t ≡ P.Predicate p) where
       number-is : N ≡ ok p
-      number-is = sym (x .answer ar listings) ∙ ap (λ (y : Opened). outcomeOf (judgedPredicate y)) e
+      number-is = sym (x .answer ar listings) ∙ ap judgedPredicate e
 
       pub becomes-declared : GoodVocabulary names ar (n .counts) → p < predicateCount
       becomes-declared g =
@@ -244,5 +245,5 @@ module _ (s : List ℕ) (n : Numbers) (names ar listings table : List ℕ) where
             pub becomes-accepted : (number : ℕ) → BecomesSays s number n names ar listings table (record { numbers = numbersWith n (n .reward) (n .counts) h; answer = A.Nothing }) listings′ table′
             becomes-accepted number = record {
               says = λ state value q.
-                  line-accepted number q (line-is number state value) (adds number state value number-is (D .is)) (session-is state value q) (grown-stored q refl (grown state value q));
+                  line-accepted number q (line-is number state value) (adds number state value number-is (D .is)) (session-is state value q) (grown-stored q refl (grown state value q)) (q .indexed);
             }

@@ -1,13 +1,12 @@
 -- Laws that the lines share: where a diagram stands on a line, what is lent to draw it, and the session behind a line that prints nothing.
-use mathlib.Core.Path.{_≡_, refl, sym, ap, subst, _∙_}
-use mathlib.Core.Bool.{Bool, true, not}
+use mathlib.Core.Path.{_≡_, refl, sym, ap, subst}
+use mathlib.Core.Bool.{Bool, not}
 use lib.Dec.{eqb}
 use mathlib.Core.List.{List, [], _∷_, _++_}
 use Prim.Native.Nat.{ℕ, _+_, _*_, _≤_}
 use native.Mathlib.Omega.{arith}
 use lib.ListN.{length, replicate, length-append, length-replicate}
 use Rattle.refusal.specs.declared.Refusal.{Refusal}
-use Rattle.refusal.specs.declared.Refusal.the-variants.{Place}
 use Rattle.refusal.specs.Outcome.{Outcome, ok, refused}
 use Rattle.text.specs.declared.Kind.{Kind}
 use Rattle.text.specs.Line.{keyword, wordsBytes}
@@ -17,19 +16,19 @@ use Rattle.names.specs.Keys.{keysAt}
 use Rattle.reading.specs.declared.Binding.{Binding}
 use Rattle.reading.specs.Callers.{keptCount, variableWords, argumentCount, Tables, Variables}
 use Rattle.answers.specs.declared.Answer.the-variants.{Refused, Nothing}
-use Rattle.session.specs.declared.Part.{Part}
 use Rattle.session.specs.declared.Part.the-variants.{Run}
 use Rattle.session.specs.declared.Rule.the-variants.{Misplaced}
 use Rattle.session.specs.Session.{Session}
 use Rattle.session.specs.Place.{ruleOf}
-use Rattle.session.specs.Replies.{Reply, allowed, quietly, refusal, done, wordsOf}
+use Rattle.session.specs.Replies.{quietly, done, wordsOf}
 use Rattle.declare.specs.declared.Counts.{Counts}
 use Rattle.declare.specs.Tables.{GoodVocabulary}
+use Rattle.facts.specs.Words.{FactIndex}
 use Rattle.model.specs.declared.Head.{Head}
-use Rattle.modelling.specs.Building.{Building}
+use Rattle.model_entry.specs.Building.{Building}
 use Rattle.memory.specs.declared.Numbers.{Numbers}
 use Rattle.memory.specs.Memory.{Memory, memoryOf, sessionOf, LineOf, Stored, Ready, Answers}
-use Rattle.diagram_lines.proofs.RoomLaws.{unlike}
+use Rattle.memory.specs.QuietLaws.{quiet-refused, quiet-done, no-run}
 
 -- ===== What is lent =====
 
@@ -65,23 +64,11 @@ fresh-variables m k h l = record { words = rw (length-replicate) h; variables-fi
 module _ {k : Kind} {s : List ℕ} (number : ℕ) {n : Numbers} {w : Memory} (q : Ready k s n w) {o : Outcome Session}
     (e : done (sessionOf n w) number k (wordsOf k s) ≡ quietly (sessionOf n w) number (λ τ. τ) o) where
   pub line-refused : {r : Refusal} → o ≡ refused r → Answers k s number n w (record { numbers = n; answer = Refused r number }) w
-  line-refused {r} f =
-      let x : refusal (sessionOf n w) number r ≡ done (sessionOf n w) number k (wordsOf k s) = sym (e ∙ ap (quietly (sessionOf n w) number (λ τ. τ)) f) in
-      record { answer = ap (λ (y : Reply). y .answer) x; session = ap (λ (y : Reply). y .session) x; stored = q .stored }
+  line-refused f = quiet-refused (λ τ. τ) o e f (q .stored) (q .indexed)
 
-  pub line-accepted : {m : Numbers} {v : Memory} {τ : Session} → o ≡ ok τ → sessionOf m v ≡ τ → Stored m v → Answers k s number n w (record { numbers = m; answer = Nothing }) v
-  line-accepted {m} {v} {τ} f g b =
-      let x : record { session = τ; answer = Nothing } ≡ done (sessionOf n w) number k (wordsOf k s) = sym (e ∙ ap (quietly (sessionOf n w) number (λ τ. τ)) f) in
-      record { answer = ap (λ (y : Reply). y .answer) x; session = g ∙ ap (λ (y : Reply). y .session) x; stored = b }
-
--- a line of the model stands in no run
-not-run : (k : Kind) {s : List ℕ} {n : Numbers} {w : Memory} → Ready k s n w → ruleOf k Run ≡ Misplaced → n .part ≡ Run → ⊥
-unfolding allowed
-not-run k {s} {n} {w} q m e =
-    unlike (sym misplaced ∙ subst (λ (p : Part). allowed (sessionOf n w) (ruleOf k p) ≡ ok tt) e (q .place))
-  where
-    misplaced : allowed (sessionOf n w) (ruleOf k Run) ≡ refused Place
-    misplaced = ap (allowed (sessionOf n w)) m
+  pub line-accepted : {m : Numbers} {v : Memory} {τ : Session} → o ≡ ok τ → sessionOf m v ≡ τ → Stored m v → FactIndex (v .arities) (v .state) (m .live)
+      → Answers k s number n w (record { numbers = m; answer = Nothing }) v
+  line-accepted f g b x = quiet-done (λ τ. τ) o e f g b x
 
 -- the numbers with a reward or none, the counts c and the head h
 abbrev pub numbersWith : Numbers → Bool → Counts → Head → Numbers
@@ -107,7 +94,7 @@ pub record Grown (n : Numbers) (ar listings names′ listings′ table′ : List
 pub grown-stored : {k : Kind} {s names ar listings table state value names′ listings′ table′ : List ℕ} {n : Numbers} {f : Bool} {c : Counts} {h : Head} {m : ℕ}
     → Ready k s n (memoryOf names ar listings table state value) → ruleOf k Run ≡ Misplaced → Grown n ar listings names′ listings′ table′ f c h m
     → Stored (numbersWith n f c h) (memoryOf names′ ar listings′ table′ state value)
-grown-stored {k = k} q e g = record {
+grown-stored q e g = record {
   vocabulary = g .vocabulary;
   building = g .building;
   listing-room = omega (arith, g .size, q .stored .listing-room);
@@ -116,5 +103,5 @@ grown-stored {k = k} q e g = record {
   live = q .stored .live;
   value-room = q .stored .value-room;
   value-rows = q .stored .value-rows;
-  holding = λ r. absurd (not-run k q e r);
+  holding = λ r. absurd (no-run e q r);
 }

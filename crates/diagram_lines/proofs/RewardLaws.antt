@@ -29,7 +29,7 @@ use Rattle.drawing.specs.declared.Built.the-variants.{Done, Refused}
 use Rattle.build.specs.Machine.{builtClosed}
 use Rattle.answers.specs.declared.Answer.the-variants as A
 use Rattle.session.specs.Session.{Names}
-use Rattle.session.specs.Modelling.{mostModelRows, namesFor, outcomeOf, rewardRead, withReward, rewardLine}
+use Rattle.session.specs.ModelLines.{mostModelRows, namesFor, rewardRead, withReward, rewardLine}
 use Rattle.session.specs.Replies.{done, quietly, wordsOf}
 use Rattle.declare.specs.Tables.{namesOf}
 use Rattle.facts.specs.Words.{liveOf}
@@ -37,7 +37,7 @@ use Rattle.steps.specs.GivenLaws.{then-then}
 use Rattle.planner.specs.Run.{heldIn}
 use Rattle.model.specs.declared.Head.{Head}
 use Rattle.model.specs.Layout.{modelOf}
-use Rattle.modelling.specs.Building.{rewarded, RowsRoom, RewardAdded}
+use Rattle.model_entry.specs.Building.{rewarded, RowsRoom, RewardAdded}
 use Rattle.memory.specs.declared.Numbers.{Numbers}
 use Rattle.memory.specs.Memory.{Memory, memoryOf, sessionOf, Ready}
 use Rattle.drawing.specs.Drawing.{drawnClosed, DiagramAt, Drawable, Draws}
@@ -50,7 +50,7 @@ use Rattle.diagram_lines.proofs.LineLaws.{line-short, line-begins, tabl
 reward-drawn : (n : Names) (ar : List ℕ) (r : ℕ) (es : List Event) → rewardRead n ar r es ≡ roomed false r (drawnClosed (namesFor n ar Any []) es)
 unfolding rewardRead drawnClosed
 reward-drawn n ar r es =
-    sym (then-then (outcomeOf (rewardReading (namesFor n ar Any []) es)) (λ (w : Written). builtClosed ar (w .operations)) (λ (d : Diagram). roomed false r (ok d)))
+    sym (then-then (rewardReading (namesFor n ar Any []) es) (λ (w : Written). builtClosed ar (w .operations)) (λ (d : Diagram). roomed false r (ok d)))
 
 -- the counts of names on the line: a reward has no parameters
 abbrev pub rewardScope : Numbers → Scope
@@ -168,5 +168,5 @@ module _ (s : List ℕ) (n : Numbers) (names ar listings : List ℕ) where
           says = λ table state value q.
               let w : Memory = memoryOf names ar listings table state value in
               line-accepted number q (reward-done s number n w) (ap (λ (o : Outcome Diagram). andThen o (λ y. ok (withReward (sessionOf n w) y))) (D .is))
-              (session-is table state value q) (grown-stored q refl (grown table state value q));
+              (session-is table state value q) (grown-stored q refl (grown table state value q)) (q .indexed);
         }

@@ -13,12 +13,13 @@ use Rattle.diagram.specs.Diagram.{Diagram}
 use Rattle.diagram.specs.Rows.{rows}
 use Rattle.diagram.specs.Listing.{listing, diagramOf}
 use Rattle.refusal.specs.Outcome.{Outcome, ok, refused}
+use Rattle.reading.specs.OutcomeLaws.{apart}
 use Rattle.drawing.specs.declared.Built.{Built}
 use Rattle.drawing.specs.declared.Built.the-variants.{Done, Refused}
 use Rattle.drawing.specs.Writing.{builtAs}
-use Rattle.session.specs.Modelling.{mostModelRows}
+use Rattle.session.specs.ModelLines.{mostModelRows}
 use Rattle.model.specs.Layout.{listingWords}
-use Rattle.modelling.specs.Building.{Canonical}
+use Rattle.model_entry.specs.Building.{Canonical}
 use Rattle.drawing.specs.Drawing.{Holds, Draws}
 use Rattle.drawing.specs.DrawingLaws.{ListingOf, draws-canonical}
 use Rattle.diagram_lines.specs.Lines.{roomed, pickBuilt, roomedAs}
@@ -45,28 +46,24 @@ roomed-answer f r (ok d) = go (f || ltb mostModelRows (r + length (rows d)))
     go false = refl
 roomed-answer f r (refused w) = refl
 
--- two answers of a step
-pub unlike : {A B : Type 0} {w : Refusal} {a : A} → _≡_ {A = Outcome A} (refused w) (ok a) → B
-unlike e = let z : _≡_ {A = ℕ} 0 1 = cc in absurd (omega arith)
-
 pub record Roomed (f : Bool) (r : ℕ) (o : Outcome Diagram) (d : Diagram) : Type 0 where
   pub drawn : o ≡ ok d
   pub free : f ≡ false
   pub room : r + length (rows d) ≤ mostModelRows
 
 pub roomed-ok : (f : Bool) (r : ℕ) (o : Outcome Diagram) (d : Diagram) → roomed f r o ≡ ok d → Roomed f r o d
-roomed-ok true r (ok x) d e = unlike e
+roomed-ok true r (ok x) d e = absurd (apart e)
 roomed-ok false r (ok x) d e = go (ltb mostModelRows (r + length (rows x))) refl e
   where
     go : (b : Bool) → ltb mostModelRows (r + length (rows x)) ≡ b → cond b (refused Space) (ok x) ≡ ok d → Roomed false r (ok x) d
-    go true q e = unlike e
+    go true q e = absurd (apart e)
     go false q e = record {
       drawn = e;
       free = refl;
       room = let z : x ≡ d = cc in omega (arith, ltb-false mostModelRows (r + length (rows x)) q, ap (λ (y : Diagram). length (rows y)) z);
     }
-roomed-ok true r (refused w) d e = unlike e
-roomed-ok false r (refused w) d e = unlike e
+roomed-ok true r (refused w) d e = absurd (apart e)
+roomed-ok false r (refused w) d e = absurd (apart e)
 
 pub draws-room : {ar out : List ℕ} {o : Outcome Diagram} {b c : Built} (f : Bool) (r : ℕ) → Draws ar o b out → c ≡ roomedAs f r b → Draws ar (roomed f r o) c out
 draws-room {o = o} f r x e = record {
@@ -75,7 +72,7 @@ draws-room {o = o} f r x e = record {
 }
 
 pub draws-none : {ar out : List ℕ} {o : Outcome Diagram} {w : Refusal} → o ≡ refused w → Draws ar o (Refused w) out
-draws-none e = record { answer = ap builtAs (sym e); result = λ d q. unlike (sym e ∙ q) }
+draws-none e = record { answer = ap builtAs (sym e); result = λ d q. absurd (apart (sym e ∙ q)) }
 
 -- a diagram in the result buffer
 

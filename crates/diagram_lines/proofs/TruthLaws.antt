@@ -2,7 +2,7 @@
 use mathlib.Core.Path.{_≡_, refl, sym, ap, subst, _∙_}
 use mathlib.Core.Bool.{Bool, true, false, cond}
 use mathlib.Core.List.{List}
-use Prim.Native.Nat.{ℕ, _+_, _*_, _/_, _≤_, _<_}
+use Prim.Native.Nat.{ℕ, _*_, _/_, _≤_, _<_}
 use native.Mathlib.Omega.{arith}
 use lib.ListN.{length, getD, take, drop}
 use lib.Seq.{length-take-le}
@@ -32,27 +32,24 @@ use Rattle.reading.specs.declared.Opened.{Opened}
 use Rattle.reading.specs.declared.Opened.the-variants as P
 use Rattle.reading.specs.declared.Headed.{Headed}
 use Rattle.reading.specs.declared.Headed.the-variants as H
-use Rattle.reading.specs.Reading.{Judged}
-use Rattle.reading.specs.Reading.Judged.{fine, refused as judged}
 use Rattle.reading.specs.Head.{Head, headNumber, headArguments, headKeys}
 use Rattle.reading.specs.Callers.{variableWords, namesOf as tableNames, judgedPredicate, PredicateWithin, Opens, judgedHead, HeadWithin, Heads}
 use Rattle.reading.specs.LineLaws.{becomes-arguments}
-use Rattle.reading.specs.JudgedLaws.{fine-one, chained}
+use Rattle.reading.specs.OutcomeLaws.{apart, ok-one, chained}
 use Rattle.label.specs.ArityLaws.{arity-most, arity-words}
 use Rattle.drawing.specs.declared.Built.{Built}
 use Rattle.drawing.specs.declared.Built.the-variants.{Done, Refused}
 use Rattle.drawing.specs.Writing.{builtAs}
 use Rattle.session.specs.Session.{Names}
-use Rattle.session.specs.Modelling.{outcomeOf, namesFor, isSome, truthsNow}
+use Rattle.session.specs.ModelLines.{namesFor, isSome, truthsNow}
 use Rattle.session.specs.Replies.{wordsOf}
 use Rattle.declare.specs.Tables.{namesOf, GoodNames}
 use Rattle.model.specs.Layout.{modelOf}
-use Rattle.modelling.specs.Building.{TruthRoom, HasTruth}
+use Rattle.model_entry.specs.Building.{TruthRoom, HasTruth}
 use Rattle.memory.specs.declared.Numbers.{Numbers}
-use Rattle.memory.specs.Memory.{LineOf}
 use Rattle.drawing.specs.Drawing.{drawn, Drawable, Draws}
 use Rattle.diagram_lines.specs.Lines.{roomed, pickBuilt, roomedAs, lowered, loweredAs, BuiltIn, truthNumber, truthOf, Lent, actionScope, VariantOpen, TruthOpens}
-use Rattle.diagram_lines.proofs.RoomLaws.{unlike, draws-room, draws-none, draws-refused, draws-done, drew-words, drew-diagram, drew-room}
+use Rattle.diagram_lines.proofs.RoomLaws.{draws-room, draws-none, draws-refused, draws-done, drew-words, drew-diagram, drew-room}
 use Rattle.diagram_lines.proofs.LineLaws.{line-short, tables-of}
 
 -- ===== 7 =====
@@ -78,9 +75,9 @@ lowered-ok : (o : Outcome Diagram) (d : Diagram) → lowered o ≡ ok d → o �
 lowered-ok (ok x) d e = go (leafAbove 1 x) e
   where
     go : (b : Bool) → cond b (refused Truth) (ok x) ≡ ok d → ok x ≡ ok d
-    go true e = unlike e
+    go true e = absurd (apart e)
     go false e = e
-lowered-ok (refused w) d e = unlike e
+lowered-ok (refused w) d e = absurd (apart e)
 
 module _ {ar out : List ℕ} {o : Outcome Diagram} {b : Built} (x : Draws ar o b out) where
   pub draws-built : BuiltIn ar b out
@@ -116,14 +113,14 @@ draws-truth r x e f = draws-room false r (draws-low x e) f
 -- `read_truth`
 
 module _ (n : Names) (ar : List ℕ) (p r : ℕ) (es : List Event) where
-  truth-refused : {w : Refusal} → headArguments (getD ar p 0) es ≡ judged w → truthOf n ar p r es ≡ refused w
+  truth-refused : {w : Refusal} → headArguments (getD ar p 0) es ≡ refused w → truthOf n ar p r es ≡ refused w
   unfolding truthOf
-  truth-refused e = ap (λ (j : Judged Head). andThen (outcomeOf j) (λ h. roomed false r (lowered (drawn (namesFor n ar Only (n .parameters)) (h .rest) (h .variables))))) e
+  truth-refused e = ap (λ (j : Outcome Head). andThen j (λ h. roomed false r (lowered (drawn (namesFor n ar Only (n .parameters)) (h .rest) (h .variables))))) e
 
-  truth-headed : {h : Head} → headArguments (getD ar p 0) es ≡ fine h
+  truth-headed : {h : Head} → headArguments (getD ar p 0) es ≡ ok h
       → truthOf n ar p r es ≡ roomed false r (lowered (drawn (namesFor n ar Only (n .parameters)) (h .rest) (h .variables)))
   unfolding truthOf
-  truth-headed e = ap (λ (j : Judged Head). andThen (outcomeOf j) (λ h. roomed false r (lowered (drawn (namesFor n ar Only (n .parameters)) (h .rest) (h .variables))))) e
+  truth-headed e = ap (λ (j : Outcome Head). andThen j (λ h. roomed false r (lowered (drawn (namesFor n ar Only (n .parameters)) (h .rest) (h .variables))))) e
 
 abbrev headOf : List Key → List Event → Head
 headOf ks es = record { variables = ks; rest = es }
@@ -147,17 +144,17 @@ module _ {s : List ℕ} {n : Numbers} {names ar work : List ℕ} (x : Lent Becom
           draws-none (truth-refused (namesOf names (n .counts)) ar p (n .head .words / 3) (wordsOf Becomes s) (sym (ap (judgedHead s vs (getD ar p 0)) (sym e) ∙ head-is)))
 
       module _ {i : ℕ} (e : t ≡ H.Arguments i) where
-        headed-is : headArguments (getD ar p 0) (wordsOf Becomes s) ≡ fine (record { variables = keysAt vs 0 (getD ar p 0); rest = eventsOf (drop i s) })
+        headed-is : headArguments (getD ar p 0) (wordsOf Becomes s) ≡ ok (record { variables = keysAt vs 0 (getD ar p 0); rest = eventsOf (drop i s) })
         headed-is = sym (ap (judgedHead s vs (getD ar p 0)) (sym e) ∙ head-is)
 
         behind-is : eventsOf (drop i s) ≡ diagramEvents (x .line .words .2)
         behind-is =
             let y : headArguments (getD ar p 0) (wordsOf Becomes s) ≡ headArguments (getD ar p 0) (wordsOf Becomes (lineBytes (line Becomes (x .line .words))))
             = ap (λ (z : List ℕ). headArguments (getD ar p 0) (wordsOf Becomes z)) (x .line .bytes) in
-            let c = chained (headKeys (getD ar p 0) (x .line .words .1)) (λ (ks : List Key). fine (headOf ks (diagramEvents (x .line .words .2))))
+            let c = chained (headKeys (getD ar p 0) (x .line .words .1)) (λ (ks : List Key). ok (headOf ks (diagramEvents (x .line .words .2))))
             (headOf (keysAt vs 0 (getD ar p 0)) (eventsOf (drop i s)))
             (sym (becomes-arguments (getD ar p 0) (x .line .words) (x .line .good .0)) ∙ sym y ∙ headed-is) in
-            let d : headOf (c .first) (diagramEvents (x .line .words .2)) ≡ headOf (keysAt vs 0 (getD ar p 0)) (eventsOf (drop i s)) = fine-one (c .then) in
+            let d : headOf (c .first) (diagramEvents (x .line .words .2)) ≡ headOf (keysAt vs 0 (getD ar p 0)) (eventsOf (drop i s)) = ok-one (c .then) in
             sym (ap (λ (g : Head). g .rest) d)
 
         pub read-drawable : {out : List ℕ} → variableWords ≤ length vs → resultWords ≤ length out
@@ -185,9 +182,9 @@ module _ {s : List ℕ} {n : Numbers} {names ar work : List ℕ} (x : Lent Becom
 module _ (s : List ℕ) (n : Numbers) (names table : List ℕ) {first : ℕ} (f : first ≡ firstWord Becomes) {t : Opened}
     (o : Opens (n .counts .predicates) (headNumber (keysAt names declaredAt (n .counts .predicates)) (eventsOf (drop first s))) t) where
   number-is : (truths : Truths) → truthNumber (namesOf names (n .counts)) truths (wordsOf Becomes s)
-      ≡ andThen (outcomeOf (judgedPredicate t)) (λ p. cond (isSome (truths p)) (refused Name) (ok p))
+      ≡ andThen (judgedPredicate t) (λ p. cond (isSome (truths p)) (refused Name) (ok p))
   unfolding truthNumber namesOf
-  number-is truths = ap (λ (j : Judged ℕ). andThen (outcomeOf j) (λ p. cond (isSome (truths p)) (refused Name) (ok p)))
+  number-is truths = ap (λ (j : Outcome ℕ). andThen j (λ p. cond (isSome (truths p)) (refused Name) (ok p)))
       (sym (o .answer ∙ ap (λ (i : ℕ). headNumber (keysAt names declaredAt (n .counts .predicates)) (eventsOf (drop i s))) f))
 
   pub open-refused : {w : Refusal} → t ≡ P.Refused w → TruthOpens n names table (wordsOf Becomes s) t
@@ -195,7 +192,7 @@ module _ (s : List ℕ) (n : Numbers) (names table : List ℕ) {first : ℕ} (f 
       subst (TruthOpens n names table (wordsOf Becomes s)) (sym e) (record {
         answer = λ ar listings.
             let truths : Truths = truthsNow (modelOf ar listings table (n .head) .actions) in
-            sym (number-is truths ∙ ap (λ (y : Opened). andThen (outcomeOf (judgedPredicate y)) (λ p. cond (isSome (truths p)) (refused Name) (ok p))) e);
+            sym (number-is truths ∙ ap (λ (y : Opened). andThen (judgedPredicate y) (λ p. cond (isSome (truths p)) (refused Name) (ok p))) e);
         within = tt;
       })
 
@@ -216,7 +213,7 @@ module _ (s : List ℕ) (n : Numbers) (names table : List ℕ) {first : ℕ} (f 
           ≡ cond b (refused Name) (ok p)
       there-is ar listings =
           let truths : Truths = truthsNow (modelOf ar listings table (n .head) .actions) in
-          number-is truths ∙ ap (λ (y : Opened). andThen (outcomeOf (judgedPredicate y)) (λ q. cond (isSome (truths q)) (refused Name) (ok q))) e
+          number-is truths ∙ ap (λ (y : Opened). andThen (judgedPredicate y) (λ q. cond (isSome (truths q)) (refused Name) (ok q))) e
           ∙ ap (λ (c : Bool). cond c (refused Name) (ok p)) (sym (h .answer ar listings))
 
       pub open-twice : b ≡ true → TruthOpens n names table (wordsOf Becomes s) (P.Refused Name)

@@ -30,13 +30,14 @@ use Rattle.reading.specs.declared.Binding.the-variants.{None}
 use Rattle.reading.specs.Reading.{Written, arguments, reading}
 use Rattle.reading.specs.Callers.{variableWords, namesOf as tableNames}
 use Rattle.reading.specs.LineLaws.{next-splits}
+use Rattle.reading.specs.OutcomeLaws.{apart}
 use Rattle.drawing.specs.declared.Built.{Built}
 use Rattle.drawing.specs.declared.Built.the-variants.{Done, Refused}
 use Rattle.build.specs.Machine.{built}
 use Rattle.answers.specs.declared.Answer.the-variants as A
 use Rattle.session.specs.Session.{Names}
 use Rattle.session.specs.Good.{mostVariantNames}
-use Rattle.session.specs.Modelling.{mostModelRows, namesFor, outcomeOf, addVariant, weightRead, withVariant, variantLine}
+use Rattle.session.specs.ModelLines.{mostModelRows, namesFor, addVariant, weightRead, withVariant, variantLine}
 use Rattle.session.specs.Replies.{done, quietly, wordsOf}
 use Rattle.declare.specs.declared.Counts.{Counts}
 use Rattle.declare.specs.Tables.{namesOf, GoodNames}
@@ -46,12 +47,12 @@ use Rattle.steps.specs.GivenLaws.{then-then}
 use Rattle.planner.specs.Run.{heldIn}
 use Rattle.model.specs.declared.Head.{Head}
 use Rattle.model.specs.Layout.{modelOf}
-use Rattle.modelling.specs.Building.{withActions, newVariant, RowsRoom, VariantRoom, VariantAdded}
+use Rattle.model_entry.specs.Building.{withActions, newVariant, RowsRoom, VariantRoom, VariantAdded}
 use Rattle.memory.specs.declared.Numbers.{Numbers}
 use Rattle.memory.specs.Memory.{Memory, memoryOf, sessionOf, LineOf, Ready}
 use Rattle.drawing.specs.Drawing.{drawn, Drawable, Draws}
 use Rattle.diagram_lines.specs.Lines.{roomed, roomedAs, Lent, actionScope, WeightAt, moreVariants, VariantNamed, VariantReady, VariantSays}
-use Rattle.diagram_lines.proofs.RoomLaws.{unlike, roomed-ok, draws-room, draws-none, Drew, draws-refused, draws-done, drew-diagram, drew-canonical, drew-room}
+use Rattle.diagram_lines.proofs.RoomLaws.{roomed-ok, draws-room, draws-none, Drew, draws-refused, draws-done, drew-diagram, drew-canonical, drew-room}
 use Rattle.diagram_lines.proofs.LineLaws.{line-short, line-begins, tables-of, no-keys, fresh-variables, line-refused, line-accepted, numbersWith, Grown, grown-stored}
 
 -- ===== Its name, and the place behind it =====
@@ -87,7 +88,7 @@ weight-drawn : (n : Names) (ar : List ℕ) (r : ℕ) (k : Key) (es : List Event)
 unfolding weightRead drawn
 weight-drawn n ar r k es =
     ap (cond (isAmong k (n .variants)) (refused Name))
-    (sym (then-then (outcomeOf (reading (namesFor n ar None (n .parameters)) es (arguments []))) (λ (w : Written). built (w .operations))
+    (sym (then-then (reading (namesFor n ar None (n .parameters)) es (arguments [])) (λ (w : Written). built (w .operations))
     (λ (d : Diagram). roomed (leb mostVariants (length (n .variants))) r (ok d))))
 
 module _ {s : List ℕ} {n : Numbers} {names ar work : List ℕ} (x : Lent Variant s n names ar work) where
@@ -141,7 +142,7 @@ weight-fits n ar r k es {d} e = go (isAmong k (n .variants)) (sym (weight-drawn 
   where
     go : (b : Bool) → cond b (refused Name) (roomed (leb mostVariants (length (n .variants))) r (drawn (namesFor n ar None (n .parameters)) es [])) ≡ ok d
         → WeightFits n r d
-    go true f = unlike f
+    go true f = absurd (apart f)
     go false f =
         let y = roomed-ok (leb mostVariants (length (n .variants))) r (drawn (namesFor n ar None (n .parameters)) es []) d f in
         record { variant = leb-false mostVariants (length (n .variants)) (y .free); room = y .room }
@@ -303,5 +304,5 @@ module _ (s : List ℕ) (n : Numbers) (names ar listings table : List ℕ) {k : 
           says = λ state value q.
               line-accepted number q (line-is number state value)
               (ap (λ (o : Outcome Diagram). andThen o (λ z. ok (withVariant (sessionOf n (memoryOf names ar listings table state value)) k z))) (D .is))
-              (session-is state value q) (grown-stored q refl (grown state value q));
+              (session-is state value q) (grown-stored q refl (grown state value q)) (q .indexed);
         }

@@ -31,11 +31,11 @@ use Rattle.drawing.specs.declared.Built.{Built}
 use Rattle.drawing.specs.declared.Built.the-variants.{Done, Refused}
 use Rattle.session.specs.Session.{Names, refuseIf}
 use Rattle.session.specs.Good.{mostVariantNames}
-use Rattle.session.specs.Modelling.{mostModelRows, outcomeOf, namesFor, rowsWith, isSome, truthsNow}
+use Rattle.session.specs.ModelLines.{mostModelRows, namesFor, rowsWith, isSome, truthsNow}
 use Rattle.declare.specs.declared.Counts.{Counts}
 use Rattle.declare.specs.Tables.{namesOf, GoodVocabulary}
 use Rattle.model.specs.Layout.{listingWords, variantsOf, modelOf}
-use Rattle.modelling.specs.Building.{Spanned}
+use Rattle.model_entry.specs.Building.{Spanned}
 use Rattle.memory.specs.declared.Numbers.{Numbers}
 use Rattle.memory.specs.declared.Said.{Said}
 use Rattle.memory.specs.Memory.{memoryOf, LineOf, Ready, Answers}
@@ -75,13 +75,13 @@ pub record BuiltIn (ar : List ℕ) (b : Built) (out : List ℕ) : Type 0 where
 -- the predicate of a head: 2 where it is undeclared or has a truth diagram already
 unfoldable pub truthNumber : Names → Truths → List Event → Outcome ℕ
 unfolding headNumber
-truthNumber n truths es = andThen (outcomeOf (headNumber (n .predicates) es)) (λ p. refuseIf (isSome (truths p)) Name (ok p))
+truthNumber n truths es = andThen (headNumber (n .predicates) es) (λ p. refuseIf (isSome (truths p)) Name (ok p))
 
 -- behind it: its arguments, the words of its diagram, its diagram, 7, then 9
 unfoldable pub truthOf : Names → List ℕ → ℕ → ℕ → List Event → Outcome Diagram
 unfolding headArguments drawn leafAbove
 truthOf n ar p r es =
-    andThen (outcomeOf (headArguments (getD ar p 0) es)) (λ h. roomed false r (lowered (drawn (namesFor n ar Only (n .parameters)) (h .rest) (h .variables))))
+    andThen (headArguments (getD ar p 0) es) (λ h. roomed false r (lowered (drawn (namesFor n ar Only (n .parameters)) (h .rest) (h .variables))))
 
 -- ===== What is lent to read a line =====
 
@@ -161,7 +161,7 @@ pub record VariantOpen (table : List ℕ) (n : Numbers) : Type 0 where
 -- the predicate of the head, whatever listings the model has
 pub record TruthOpens (n : Numbers) (names table : List ℕ) (es : List Event) (r : Opened) : Type 0 where
   pub answer : (ar listings : List ℕ)
-      → outcomeOf (judgedPredicate r) ≡ truthNumber (namesOf names (n .counts)) (truthsNow (modelOf ar listings table (n .head) .actions)) es
+      → judgedPredicate r ≡ truthNumber (namesOf names (n .counts)) (truthsNow (modelOf ar listings table (n .head) .actions)) es
   pub within : PredicateWithin (n .counts .predicates) r
 
 pub record BecomesReady (s : List ℕ) (n : Numbers) (names ar listings table work : List ℕ) : Type 0 where

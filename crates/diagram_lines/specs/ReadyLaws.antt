@@ -24,8 +24,8 @@ use Rattle.names.specs.Many.{many}
 use Rattle.names.specs.ManyLaws.{length-many}
 use Rattle.model.specs.declared.Head.{Head}
 use Rattle.model.specs.Layout.{variantsOf, actionAt, modelOf}
-use Rattle.modelling.specs.Building.{Spanned, variantsBefore}
-use Rattle.modelling.specs.NameLaws.{variants-are, variants-before, spanned-few, before-few}
+use Rattle.model_entry.specs.Building.{Spanned, variantsBefore}
+use Rattle.model_entry.specs.NameLaws.{variants-are, variants-before, spanned-few, before-few}
 use Rattle.memory.specs.declared.Numbers.{Numbers}
 use Rattle.memory.specs.Memory.{memoryOf, sessionOf, Ready, workWords}
 use Rattle.diagram_lines.specs.Lines.{Lent, Listings, LastOf, RewardReady, VariantReady, BecomesReady}

@@ -23,7 +23,7 @@ ghost use Rattle.names.specs.Keys.{keysAt};
 ghost use Rattle.names.specs.Layout.{variantsAt};
 ghost use Rattle.reading.specs.declared.Binding.the-variants.{Only};
 ghost use Rattle.reading.specs.Callers.{namesOf as tableNames};
-ghost use Rattle.session.specs.Modelling.{rewardRead, weightRead};
+ghost use Rattle.session.specs.ModelLines.{rewardRead, weightRead};
 ghost use Rattle.session.specs.Replies.{wordsOf};
 ghost use Rattle.declare.specs.Tables.{namesOf, GoodNames};
 ghost use Rattle.model.specs.Layout.{listingWords};
@@ -97,7 +97,7 @@ pub fn reward(
             answer: Answer::Refused(why, number),
         },
         Built::Done(rows) => {
-            let head = modelling::add_reward(listings, n.head, &out, rows);
+            let head = model_entry::add_reward(listings, n.head, &out, rows);
             let mut next = n;
             next.reward = true;
             next.head = head;
@@ -190,7 +190,7 @@ pub fn variant(
             answer: Answer::Refused(why, number),
         },
         Built::Done(rows) => {
-            let head = modelling::add_variant(listings, table, n.head, &out, rows);
+            let head = model_entry::add_variant(listings, table, n.head, &out, rows);
             let counts = name_variant(names, n.counts, key);
             let mut next = n;
             next.counts = counts;
@@ -291,7 +291,7 @@ fn open_truth(line: &[u8], n: Numbers, names: &[u64], table: &[u64]) -> Opened
     let Opened::Predicate(p) = opened else {
         return opened;
     };
-    if modelling::has_truth(table, n.head, p) {
+    if model_entry::has_truth(table, n.head, p) {
         return Opened::Refused(Refusal::Name);
     }
     opened
@@ -326,7 +326,7 @@ pub fn becomes(
                     answer: Answer::Refused(why, number),
                 },
                 Built::Done(rows) => {
-                    let head = modelling::add_truth(listings, table, n.head, p, &out, rows);
+                    let head = model_entry::add_truth(listings, table, n.head, p, &out, rows);
                     let mut next = n;
                     next.head = head;
                     Said {

@@ -1,15 +1,19 @@
 -- Laws of the facts in lent words: the search for one, and one more.
-use mathlib.Core.Path.{_≡_, refl, sym, ap, ap₂, _∙_}
-use mathlib.Core.Bool.{Bool, true, false, not, _||_, or-true}
+use mathlib.Core.Path.{_≡_, refl, sym, ap, ap₂, subst, _∙_}
+use mathlib.Core.Bool.{Bool, true, false, not}
 use mathlib.Core.List.{List, [], _∷_, _++_}
-use Prim.Native.Nat.{ℕ, zero, suc, _+_, _*_, _-_, _/_, _<_, _≤_}
+use Prim.Native.Nat.{ℕ, zero, suc, _+_, _*_, _-_, _<_, _≤_}
 use native.Mathlib.Omega.{arith}
 use borrow.Author.Tests.{le-leb, lt-leb, eq-eqb, ne-eqb, eqb-true, eqb-false}
-use lib.ListN.{length, getD, set, take, drop, replicate, length-set, length-drop, length-append, length-replicate}
-use lib.Seq.{take-add, drop-drop, ext-getD, getD-take, getD-drop, getD-set-same, getD-set-other, length-take-le}
+use lib.ListN.{length, getD, set, take, drop, replicate, length-set, length-append, length-replicate}
+use lib.Seq.{take-add, drop-drop, take-all, ext-getD, getD-take, getD-set-same, getD-set-other, length-take-le, paste, paste-zero, paste-suc, length-paste}
 use lib.Dec.{eqb}
 use Rattle.basics.specs.Tests.{Flag, isTrue, isFalse, flag, and-left}
-use Rattle.state.specs.Lent.{factCount, someBelow, allBelow, factWords, mostFacts, factRow}
+use Rattle.state.specs.Lent.{factCount, allBelow, factWords, mostFacts, factRow}
+use Rattle.state.specs.LentLaws.{some-made, some-none}
+use Rattle.fact_index.specs.Index.{buckets, bucketAt, indexedCount, Indexed, Asks}
+use Rattle.fact_index.specs.IndexLaws.{bucket-same, indexed-same, index-add}
+use Rattle.fact_index.specs.SearchLaws.{Chain, chain-head, chain-start, chain-row, chain-link, chain-less, chain-hit, chain-on, chain-none}
 use Rattle.session.specs.Session.{refuseIf}
 use Rattle.diagram.specs.WordLaws.{every-below, below-every}
 use Rattle.session.specs.Facts.{sameWord, rowIs, isFact, withFact, begunAgain, factLine, trueLine}
@@ -27,8 +31,24 @@ use Rattle.label.specs.Limits.{constantCount, predicateCount, mostPlaces}
 use Rattle.label.specs.Labels.{areArities}
 use Rattle.refusal.specs.declared.Refusal.the-variants.{Name, Arity, Range, Space}
 use Rattle.refusal.specs.Outcome.{ok}
-use Rattle.facts.specs.Words.{part, liveOf, GoodLive, Living, Putting, TupleOf, Telling, placedBase, factsBase}
-use Rattle.facts.proofs.StateLaws.{live-ext}
+use Rattle.facts.specs.Words.{
+  part,
+  liveOf,
+  GoodLive,
+  FactIndex,
+  Living,
+  TupleOf,
+  Telling,
+  placedBase,
+  factsBase,
+  indexBase,
+  indexWords,
+  stateWords,
+}
+use Rattle.facts.specs.Noting.{Findable, noted, PutIn}
+use Rattle.facts.specs.PartLaws.{length-part, part-at, part-lent, set-behind, paste-in, paste-before, paste-behind}
+use Rattle.facts.specs.WordLaws.{live-ext, fact-count, index-rows, index-holds, index-stays}
+use Rattle.facts.proofs.IndexLaws.{entered}
 
 -- ===== One row =====
 
@@ -60,119 +80,180 @@ module _ (facts row : List ℕ) (i : ℕ) {j : ℕ} (a : Agreed facts row i j) w
 
 -- ===== The search =====
 
-some-at : (q : ℕ → Bool) (n i : ℕ) → i < n → q i ≡ true → someBelow n q ≡ true
-some-at q zero i h e = absurd (omega arith)
-some-at q (suc n) i h e = go (flag (eqb i n)) (some-at q n i)
-  where
-    lower : (i ≡ n → ⊥) → i < n
-    lower z = omega (arith, z)
+-- a fact that is the row is in the row's bucket, and all facts are in the index
+module _ {facts index row : List ℕ} {b : ℕ} (x : Findable facts index row b) where
+  all-indexed : factCount facts ≡ indexedCount facts index
+  unfolding indexedCount
+  all-indexed = omega (arith, x .indexed .places)
 
-    go : Flag (eqb i n) → (i < n → q i ≡ true → someBelow n q ≡ true) → (someBelow n q || q n) ≡ true
-    go (isTrue p) r = rw (ap q (sym (eqb-true i n p)) ∙ e) (or-true (someBelow n q))
-    go (isFalse p) r = rw (r (lower (eqb-false i n p)) e)
+  asked : Asks facts index (rowIs facts row) b
+  asked = record {
+    arities = x .arities;
+    fits = subst (Indexed (x .arities) facts index) all-indexed (x .indexed);
+    bucket = x .bucket .1;
+    only = λ i e. bucket-same (x .arities) facts row i 0 (λ j h. word i j e h) ∙ sym (x .bucket .0);
+  }
+    where
+      word : (i j : ℕ) → rowIs facts row i ≡ true → j < factWords → getD facts (i * factWords + j) 0 ≡ getD row (0 * factWords + j) 0
+      word i j e h =
+          let z : j ≡ 0 * factWords + j = omega arith in
+          eqb-true _ _ (below-every factWords (sameWord facts row i) j e h) ∙ ap (λ (k : ℕ). getD row k 0) z
 
--- none of the first i rows is the fact
-pub record Looked (facts row : List ℕ) (i : ℕ) : Type 0 where
-  pub none : someBelow i (rowIs facts row) ≡ false
-  pub few : i ≤ factCount facts
+-- facts in the bucket from `at` on were looked at
+pub record Looked (facts index row : List ℕ) (b at : ℕ) : Type 0 where
+  pub chain : Chain facts index (rowIs facts row) b at
 
-module _ (facts row : List ℕ) where
-  pub look-start : Looked facts row 0
-  look-start = record { none = refl; few = omega arith }
+module _ {facts index row : List ℕ} {b : ℕ} (x : Findable facts index row b) where
+  pub look-start : Looked facts index row b (getD index b 0)
+  look-start = record { chain = chain-start (asked x) }
 
-  pub look-room : (i : ℕ) → i < length facts / factWords → i * factWords + factWords ≤ length facts
-  look-room i h = omega arith
+  pub look-head : b < length index
+  look-head = chain-head (asked x)
 
-  module _ (i : ℕ) {b : Bool} (p : b ≡ rowIs facts row i) where
-    pub look-hit : b ≡ true → i < length facts / factWords → true ≡ isFact facts row
+  module _ {at : ℕ} (l : Looked facts index row b at) where
+    pub look-none : at ≡ 0 → false ≡ isFact facts row
     unfolding isFact
-    look-hit e h = sym (some-at (rowIs facts row) (factCount facts) i h (sym p ∙ e))
+    look-none z = sym (some-none (factCount facts) (rowIs facts row) (λ i h. chain-none (l .chain) z .no refl i (omega arith) (omega (arith, all-indexed x))))
 
-    pub look-on : b ≡ false → i < length facts / factWords → Looked facts row i → Looked facts row (i + 1)
-    look-on e h l = record { none = ap (λ (n : ℕ). someBelow n (rowIs facts row)) (plus i) ∙ rw (l .none, ← p, e); few = omega arith }
-      where
-        plus : (i : ℕ) → i + 1 ≡ suc i
-        plus i = omega arith
+    module _ (n : at ≡ 0 → ⊥) {r : Bool} (e : r ≡ rowIs facts row (at - 1)) where
+      pub look-hit : r ≡ true → true ≡ isFact facts row
+      unfolding isFact
+      look-hit t =
+          let f = chain-hit (l .chain) n e t .yes refl in
+          sym (some-made (factCount facts) (rowIs facts row) (f .0) (omega (arith, all-indexed x, f .1)) (f .2))
 
-  pub look-none : (i : ℕ) → length facts / factWords ≤ i → Looked facts row i → false ≡ isFact facts row
-  unfolding isFact
-  look-none i h l =
-      let w = l .few in
-      let e : factCount facts ≡ i = omega arith in
-      sym (ap (λ (n : ℕ). someBelow n (rowIs facts row)) e ∙ l .none)
+module _ {facts index row : List ℕ} {b at : ℕ} (l : Looked facts index row b at) (n : at ≡ 0 → ⊥) where
+  pub look-row : (at - 1) * factWords + factWords ≤ length facts
+  look-row = chain-row (l .chain) n
+
+  pub look-link : buckets + (at - 1) < length index
+  look-link = chain-link (l .chain) n
+
+  pub look-less : getD index (buckets + (at - 1)) 0 < at
+  look-less = chain-less (l .chain) n
+
+  pub look-on : {r : Bool} → r ≡ rowIs facts row (at - 1) → r ≡ false → Looked facts index row b (getD index (buckets + (at - 1)) 0)
+  look-on e t = record { chain = chain-on (l .chain) n e t }
 
 -- ===== One more =====
 
--- n words from the place i on, where two lists have the same words there
-part-same : (s t : List ℕ) (i n : ℕ) → i + n ≤ length s → length t ≡ length s → ((j : ℕ) → j < i + n → getD t j 0 ≡ getD s j 0) → part t i n ≡ part s i n
-part-same s t i n l e h =
-    let u = length-take-le n (drop i t) (rw length-drop (omega arith)) in
-    let v = length-take-le n (drop i s) (rw length-drop (omega arith)) in
-    ext-getD 0 (part t i n) (part s i n) (u ∙ sym v)
-    (λ j k. let m : j < n = (rw u at k) in
-    getD-take n (drop i t) j 0 m ∙ getD-drop i t j 0 ∙ h (i + j) (omega arith) ∙ sym (getD-drop i s j 0) ∙ sym (getD-take n (drop i s) j 0 m))
-
--- j words of the row written from the place i on
+-- j words of the row stand behind the others
 pub record Writing (s row : List ℕ) (i j : ℕ) (t : List ℕ) : Type 0 where
   pub few : j ≤ factWords
-  pub size : length t ≡ length s
-  pub before : (m : ℕ) → m < i → getD t m 0 ≡ getD s m 0
-  pub words : (m : ℕ) → m < j → getD t (i + m) 0 ≡ getD row m 0
+  pub words : t ≡ paste s i row j
 
 pub writing-start : (s row : List ℕ) (i : ℕ) → Writing s row i 0 s
-writing-start s row i = record { few = omega arith; size = refl; before = λ m h. refl; words = λ m h. absurd (omega arith) }
+writing-start s row i = record { few = omega arith; words = paste-zero s i row }
 
-pub writing-on : {s row t : List ℕ} {i j : ℕ} → i + factWords ≤ length s → j < factWords → Writing s row i j t → Writing s row i (j + 1) (set t (i + j) (getD row j 0))
-writing-on {s} {row} {t} {i} {j} l h w = record {
-  few = omega arith;
-  size = rw length-set (w .size);
-  before = λ m k. getD-set-other t (i + j) m (getD row j 0) 0 (λ e. omega arith) ∙ w .before m k;
-  words = λ m k. go m k (flag (eqb m j));
-}
-  where
-    go : (m : ℕ) → m < j + 1 → Flag (eqb m j) → getD (set t (i + j) (getD row j 0)) (i + m) 0 ≡ getD row m 0
-    go m k (isTrue q) = rw (eqb-true m j q) (getD-set-same t (i + j) (getD row j 0) 0 (omega (arith, w .size)))
-    go m k (isFalse q) =
-        let n = eqb-false m j q in
-        getD-set-other t (i + j) (i + m) (getD row j 0) 0 (λ e. n (omega arith)) ∙ w .words m (omega (arith, n))
+module _ {s row t : List ℕ} {n j : ℕ} (r : stateWords ≤ length s) (h : n < mostFacts) (e : length row ≡ factWords) (w : Writing s row (factsBase + n * factWords) j t) where
+  pub writing-size : length t ≡ length s
+  writing-size = ap length (w .words) ∙ length-paste s (factsBase + n * factWords) row j (omega (arith, w .few)) (omega (arith, w .few))
 
-written-row : {s row t : List ℕ} {i j : ℕ} → i + factWords ≤ length s → length row ≡ factWords → factWords ≤ j → Writing s row i j t → part t i factWords ≡ row
-written-row {s} {row} {t} {i} {j} l e h w =
-    let u = length-take-le factWords (drop i t) (rw length-drop (omega (arith, w .size))) in
-    ext-getD 0 (part t i factWords) row (u ∙ sym e)
-    (λ m k. let q : m < factWords = (rw u at k) in getD-take factWords (drop i t) m 0 q ∙ getD-drop i t m 0 ∙ w .words m (omega arith))
+  pub writing-room : j < factWords → factsBase + n * factWords + j < length t
+  writing-room k = omega (arith, writing-size)
 
-pub put-base : (s : List ℕ) (l : Live) → GoodLive s l → l .facts < mostFacts → factsBase + l .facts * factWords + factWords ≤ length s
-put-base s l g h = let r = g .room in omega arith
+  pub writing-on : j < factWords → Writing s row (factsBase + n * factWords) (j + 1) (set t (factsBase + n * factWords + j) (getD row j 0))
+  writing-on k =
+      let i : ℕ = factsBase + n * factWords in
+      let z : suc j ≡ j + 1 = omega arith in
+      record {
+        few = omega arith;
+        words = ap (λ (y : List ℕ). set y (i + j) (getD row j 0)) (w .words) ∙ (paste-suc s i row j 0 (omega arith) (omega arith) ∙ ap (paste s i row) z);
+      }
 
-pub put-room : {s row t : List ℕ} (l : Live) {j : ℕ} → GoodLive s l → l .facts < mostFacts → j < factWords → Writing s row (factsBase + l .facts * factWords) j t
-    → factsBase + l .facts * factWords + j < length t
-put-room {s} l g h k w = omega (arith, put-base s l g h, w .size)
+  pub writing-done : factWords ≤ j → t ≡ paste s (factsBase + n * factWords) row factWords
+  writing-done k = let f = w .few in let z : j ≡ factWords = omega arith in w .words ∙ ap (paste s (factsBase + n * factWords) row) z
 
-pub put-on : {s row t : List ℕ} (l : Live) {j : ℕ} → GoodLive s l → l .facts < mostFacts → j < factWords → Writing s row (factsBase + l .facts * factWords) j t
-    → Writing s row (factsBase + l .facts * factWords) (j + 1) (set t (factsBase + l .facts * factWords + j) (getD row j 0))
-put-on {s} l g h k w = writing-on (put-base s l g h) k w
+-- the row behind the facts, and at the head of bucket b
+module _ (s : List ℕ) (l : Live) (row : List ℕ) (b : ℕ) where
+  abbrev place : ℕ
+  place = factsBase + l .facts * factWords
 
-pub put-done : {s row t : List ℕ} (l : Live) {j : ℕ} → GoodLive s l → l .facts < mostFacts → length row ≡ factWords → factWords ≤ j
-    → Writing s row (factsBase + l .facts * factWords) j t → Putting s l row t
-unfolding liveOf withFact
-put-done {s} {row} {t} l {j} g h e k w =
-    let r = g .room in
-    let i : ℕ = factsBase + l .facts * factWords in
-    record {
-      live = live-ext _ _ refl
-          (part-same s t placedBase constantCount (omega arith) (w .size) (λ m q. w .before m (omega arith)))
-          (part-same s t 0 constantCount (omega arith) (w .size) (λ m q. w .before m (omega arith)))
-          (ap (λ (n : ℕ). part t factsBase n) (more (l .facts)) ∙ take-add (l .facts * factWords) factWords (drop factsBase t)
-          ∙ ap₂ _++_ (part-same s t factsBase (l .facts * factWords) (omega arith) (w .size) (λ m q. w .before m q))
-          (ap (take factWords) (drop-drop (l .facts * factWords) factsBase t) ∙ written-row (put-base s l g h) e k w))
-          refl
-          refl;
-      good = record { room = rw (w .size) r; objects = g .objects; facts = omega arith };
+  abbrev written : List ℕ
+  written = paste s place row factWords
+
+  abbrev entry : List ℕ
+  entry = set written (indexBase + buckets + l .facts) (getD written (indexBase + b) 0)
+
+  abbrev put : List ℕ
+  put = set entry (indexBase + b) (l .facts + 1)
+
+  module _ (g : GoodLive s l) (few : l .facts < mostFacts) (e : length row ≡ factWords) (m : b < buckets) where
+    entry-size : length entry ≡ length s
+    entry-size =
+        length-set written (indexBase + buckets + l .facts) (getD written (indexBase + b) 0)
+        ∙ length-paste s place row factWords (omega (arith, g .room)) (omega arith)
+
+    put-size : length put ≡ length s
+    put-size = length-set entry (indexBase + b) (l .facts + 1) ∙ entry-size
+
+    put-before : (i n : ℕ) → i + n ≤ indexBase → part put i n ≡ part written i n
+    put-before i n h =
+        set-behind entry i n (indexBase + b) (l .facts + 1) (omega arith)
+        ∙ set-behind written i n (indexBase + buckets + l .facts) (getD written (indexBase + b) 0) (omega arith)
+
+    put-front : (i n : ℕ) → i + n ≤ place → part put i n ≡ part s i n
+    put-front i n h = put-before i n (omega arith) ∙ paste-before s place row factWords (omega (arith, g .room)) (omega arith) i n h
+
+    put-row : part put place factWords ≡ row
+    put-row =
+        put-before place factWords (omega arith)
+        ∙ (paste-in s place row factWords (omega (arith, g .room)) (omega arith) ∙ take-all factWords row (omega arith))
+
+    put-facts : part put factsBase ((l .facts + 1) * factWords) ≡ part s factsBase (l .facts * factWords) ++ row
+    put-facts =
+        let z : (l .facts + 1) * factWords ≡ l .facts * factWords + factWords = omega arith in
+        ap (λ (n : ℕ). part put factsBase n) z ∙ (take-add (l .facts * factWords) factWords (drop factsBase put)
+        ∙ ap₂ _++_ (put-front factsBase (l .facts * factWords) (omega arith)) (ap (take factWords) (drop-drop (l .facts * factWords) factsBase put) ∙ put-row))
+
+    put-index : part put indexBase indexWords
+        ≡ set (set (part s indexBase indexWords) (buckets + l .facts) (getD (part s indexBase indexWords) b 0)) b (l .facts + 1)
+    put-index =
+        entered written (l .facts) b few m
+        ∙ ap (λ (y : List ℕ). set (set y (buckets + l .facts) (getD y b 0)) b (l .facts + 1))
+        (paste-behind s place row factWords (omega (arith, g .room)) (omega arith) indexBase indexWords (omega arith))
+
+    -- a word of the facts
+    put-word : (i : ℕ) → i < (l .facts + 1) * factWords → getD (part put factsBase ((l .facts + 1) * factWords)) i 0 ≡ getD put (factsBase + i) 0
+    put-word i h = part-at put factsBase ((l .facts + 1) * factWords) i h
+
+    put-indexed : (ar : List ℕ) → Indexed ar (part s factsBase (l .facts * factWords)) (part s indexBase indexWords) (l .facts) → b ≡ bucketAt ar row 0
+        → Indexed ar (part put factsBase ((l .facts + 1) * factWords)) (part put indexBase indexWords) (l .facts + 1)
+    put-indexed ar x q =
+        let f = l .facts in
+        let facts : List ℕ = part put factsBase ((f + 1) * factWords) in
+        let size = length-part put factsBase ((f + 1) * factWords) (omega (arith, put-size, g .room)) in
+        let long = length-part s indexBase indexWords (g .room) in
+        rw put-index
+        (index-add ar facts (part s indexBase indexWords) f b (indexed-same facts x (omega arith) old) (omega arith) (omega arith)
+        (q ∙ sym (bucket-same ar facts row f 0 new), m))
+      where
+        old : (i : ℕ) → i < l .facts * factWords → getD (part put factsBase ((l .facts + 1) * factWords)) i 0 ≡ getD (part s factsBase (l .facts * factWords)) i 0
+        old i h =
+            put-word i (omega arith) ∙ (sym (part-at put factsBase (l .facts * factWords) i h)
+            ∙ ap (λ (y : List ℕ). getD y i 0) (put-front factsBase (l .facts * factWords) (omega arith)))
+
+        new : (j : ℕ) → j < factWords → getD (part put factsBase ((l .facts + 1) * factWords)) (l .facts * factWords + j) 0 ≡ getD row (0 * factWords + j) 0
+        new j h =
+            let y : factsBase + (l .facts * factWords + j) ≡ place + j = omega arith in
+            let z : j ≡ 0 * factWords + j = omega arith in
+            put-word (l .facts * factWords + j) (omega arith) ∙ (ap (λ (k : ℕ). getD put k 0) y ∙ (sym (part-at put place factWords j h)
+            ∙ (ap (λ (y : List ℕ). getD y j 0) put-row ∙ ap (λ (k : ℕ). getD row k 0) z)))
+
+    put-in : PutIn s l row b put
+    unfolding liveOf withFact
+    put-in = record {
+      live = live-ext _ _ refl (put-front placedBase constantCount (omega arith)) (put-front 0 constantCount (omega arith)) put-facts refl refl;
+      good = record { room = omega (arith, put-size, g .room); objects = g .objects; facts = omega arith };
+      index = put-indexed;
     }
-  where
-    more : (n : ℕ) → (n + 1) * factWords ≡ n * factWords + factWords
-    more n = omega arith
+
+    module _ {u : List ℕ} (w : u ≡ paste s (factsBase + l .facts * factWords) row factWords) where
+      pub put-room : indexBase + b < length (set u (indexBase + buckets + l .facts) (getD u (indexBase + b) 0))
+      put-room = rw w (omega (arith, entry-size, g .room))
+
+      pub put-done : PutIn s l row b (set (set u (indexBase + buckets + l .facts) (getD u (indexBase + b) 0)) (indexBase + b) (l .facts + 1))
+      put-done = rw w put-in
 
 -- ===== A fact told =====
 
@@ -200,30 +281,44 @@ row-made p {n} {os} {o} {row} w = ext-getD 0 (set row 0 p) (factRow p os) (lengt
         getD-set-other row 0 (suc j) p 0 (λ e. omega arith) ∙ w .objects j q
         ∙ sym (getD-take mostPlaces (os ++ replicate mostPlaces 0) j 0 q ∙ padded-at os mostPlaces j)
 
-fact-count : (s : List ℕ) (l : Live) → GoodLive s l → factCount (part s factsBase (l .facts * factWords)) ≡ l .facts
-fact-count s l g =
-    let r = g .room in
-    let h = g .facts in
-    let e = length-take-le (l .facts * factWords) (drop factsBase s) (rw length-drop (omega arith)) in
-    ap (λ (n : ℕ). n / factWords) e ∙ (omega arith)
+module _ {ar s : List ℕ} {l : Live} (row : List ℕ) (g : GoodLive s l) (x : FactIndex ar s l) where
+  pub note-find : {b : ℕ} → 1 ≤ l .objects → (b ≡ bucketAt ar row 0) × (b < buckets)
+      → Findable (take (factsBase + l .facts * factWords - factsBase) (drop factsBase s)) (take (stateWords - indexBase) (drop indexBase s)) row b
+  note-find o e = rw (part-lent s factsBase (l .facts * factWords)) (record {
+    arities = ar;
+    indexed = subst (Indexed ar _ _) (sym (fact-count g)) (index-holds o x);
+    bucket = e;
+  })
 
-module _ (s : List ℕ) (l : Live) (row : List ℕ) {b : Bool} (q : b ≡ isFact (take (factsBase + l .facts * factWords - factsBase) (drop factsBase s)) row) where
-  lent-facts : b ≡ isFact (part s factsBase (l .facts * factWords)) row
-  lent-facts = let e : factsBase + l .facts * factWords - factsBase ≡ l .facts * factWords = omega arith in q ∙ ap (λ (n : ℕ). isFact (take n (drop factsBase s)) row) e
+  module _ {r : Bool} (q : r ≡ isFact (take (factsBase + l .facts * factWords - factsBase) (drop factsBase s)) row) where
+    lent-facts : r ≡ isFact (part s factsBase (l .facts * factWords)) row
+    lent-facts = q ∙ ap (λ (y : List ℕ). isFact y row) (part-lent s factsBase (l .facts * factWords))
 
-  pub note-again : GoodLive s l → b ≡ true → Living (factLine (liveOf s l) row) s (Done (record { objects = l .objects; facts = l .facts; count = 0; total = 0 })) s
-  unfolding factLine begunAgain liveOf
-  note-again g e = record { lives = (rw (← lent-facts, e), record { room = g .room; objects = g .objects; facts = g .facts }) }
+    pub note-again : r ≡ true → Living ar (factLine (liveOf s l) row) s (Done (record { objects = l .objects; facts = l .facts; count = 0; total = 0 })) s
+    unfolding factLine begunAgain liveOf
+    note-again t = record {
+      lives = (
+        rw (← lent-facts, t),
+        record { room = g .room; objects = g .objects; facts = g .facts },
+        index-stays s (record { objects = l .objects; facts = l .facts; count = 0; total = 0 }) refl refl refl refl x,
+      );
+    }
 
-  module _ (g : GoodLive s l) (e : b ≡ false) where
-    pub note-space : mostFacts ≤ l .facts → Living (factLine (liveOf s l) row) s (Refused Space) s
-    unfolding factLine liveOf
-    note-space h = record { lives = (rw (← lent-facts, e, fact-count s l g, le-leb mostFacts (l .facts) h), refl) }
+    module _ (t : r ≡ false) where
+      pub note-space : mostFacts ≤ l .facts → Living ar (factLine (liveOf s l) row) s (Refused Space) s
+      unfolding factLine liveOf
+      note-space h = record { lives = (rw (← lent-facts, t, fact-count g, le-leb mostFacts (l .facts) h), refl) }
 
-    pub note-done : {t : List ℕ} → l .facts < mostFacts → Putting s l row t
-        → Living (factLine (liveOf s l) row) s (Done (record { objects = l .objects; facts = l .facts + 1; count = 0; total = 0 })) t
-    unfolding factLine liveOf
-    note-done h u = record { lives = (rw (← lent-facts, e, fact-count s l g, lt-leb mostFacts (l .facts) h) (ap ok (sym (u .live))), u .good) }
+      pub note-done : {b : ℕ} {u : List ℕ} → 1 ≤ l .objects → (b ≡ bucketAt ar row 0) × (b < buckets) → l .facts < mostFacts → PutIn s l row b u
+          → Living ar (factLine (liveOf s l) row) s (Done (noted l)) u
+      unfolding factLine liveOf
+      note-done o e h p = record {
+        lives = (
+          rw (← lent-facts, t, fact-count g, lt-leb mostFacts (l .facts) h) (ap ok (sym (p .live))),
+          p .good,
+          index-rows o (p .index ar (index-holds o x) (e .0)),
+        );
+      }
 
 module _ (ar table s : List ℕ) (n : Counts) (l : Live) (k : Key) (o : Tuple) (row : List ℕ) {i : ℕ} (p : i ≡ placeOf k (keysAt table declaredAt (n .predicates))) where
   pub tell-name : n .predicates ≤ i → Telling ar table n s l k o row (Refused Name) s
@@ -257,7 +352,7 @@ module _ (ar table s : List ℕ) (n : Counts) (l : Live) (k : Key) (o : Tuple) (
         };
       }
 
-      pub tell-done : {r : Told} {t : List ℕ} → o .within ≡ true → Living (factLine (liveOf s l) (set row 0 (i + 1))) s r t → Telling ar table n s l k o row r t
+      pub tell-done : {r : Told} {t : List ℕ} → o .within ≡ true → Living ar (factLine (liveOf s l) (set row 0 (i + 1))) s r t → Telling ar table n s l k o row r t
       unfolding trueLine namesOf liveOf
       tell-done {r} {t} b v = record {
         told = λ os w.
@@ -269,7 +364,7 @@ module _ (ar table s : List ℕ) (n : Counts) (l : Live) (k : Key) (o : Tuple) (
           number = omega arith
 
           within : (os : List ℕ) → TupleOf (l .objects) os o row
-              → Living (refuseIf (not (allBelow (liveOf s l .objects) os)) Range (factLine (liveOf s l) (factRow (suc (placeOf k (keysAt table declaredAt (n .predicates)))) os))) s r t
+              → Living ar (refuseIf (not (allBelow (liveOf s l .objects) os)) Range (factLine (liveOf s l) (factRow (suc (placeOf k (keysAt table declaredAt (n .predicates)))) os))) s r t
           within os w = rw (← number, ← row-made (i + 1) w, ← w .within, b) v
 
 pub tell-room : (ar table : List ℕ) (n : Counts) (i : ℕ) → GoodVocabulary table ar n → i < n .predicates → i + 1 < length ar

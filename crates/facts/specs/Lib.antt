@@ -1,3 +1,6 @@
 -- A state in lent words.
 pub mod Words
+pub mod Noting
+-- laws
+pub mod PartLaws
 pub mod WordLaws

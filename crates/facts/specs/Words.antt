@@ -1,15 +1,16 @@
--- A state in lent words: the constants' objects, marks of those placed, then the facts as rows of words.
+-- A state in lent words: the constants' objects, marks of those placed, the facts as rows of words, then their index (crate fact_index).
 use mathlib.Core.Path.{_≡_}
 use mathlib.Core.Bool.{_&&_, cond}
-use lib.Dec.{ltb}
+use lib.Dec.{eqb, ltb}
 use mathlib.Core.List.{List}
 use Prim.Native.Nat.{ℕ, suc, _+_, _*_, _<_, _≤_}
 use lib.ListN.{length, getD, set, take, drop}
 use Rattle.label.specs.Limits.{constantCount, mostPlaces}
 use Rattle.refusal.specs.Outcome.{Outcome, ok, refused}
 use Rattle.state.specs.Lent.{factWords, allBelow, mostFacts, mostObjects}
+use Rattle.fact_index.specs.Index.{buckets, Indexed, Clean}
 use Rattle.session.specs.Session.{Live as SessionLive}
-use Rattle.session.specs.Facts.{withFact, trueLine}
+use Rattle.session.specs.Facts.{trueLine}
 use Rattle.words.specs.declared.Key.{Key}
 use Rattle.declare.specs.declared.Counts.{Counts}
 use Rattle.declare.specs.Tables.{namesOf}
@@ -24,8 +25,15 @@ placedBase = constantCount
 abbrev pub factsBase : ℕ
 factsBase = constantCount + constantCount
 
+abbrev pub indexBase : ℕ
+indexBase = factsBase + mostFacts * factWords
+
+-- buckets, and a link for each fact
+abbrev pub indexWords : ℕ
+indexWords = buckets + mostFacts
+
 abbrev pub stateWords : ℕ
-stateWords = factsBase + mostFacts * factWords
+stateWords = indexBase + indexWords
 
 -- a line has at most 4,095 bytes
 abbrev pub mostBytes : ℕ
@@ -49,23 +57,64 @@ pub record GoodLive (s : List ℕ) (l : Live) : Type 0 where
   pub objects : l .objects ≤ mostObjects
   pub facts : l .facts ≤ mostFacts
 
-abbrev pub Lives : Outcome SessionLive → List ℕ → Told → List ℕ → Type 0
-Lives o s (Done l) t = (o ≡ ok (liveOf t l)) × GoodLive t l
-Lives o s (Refused r) t = (o ≡ refused r) × (t ≡ s)
+-- ===== The index of the facts =====
 
--- the state behind an accepted line; a refused one leaves the words as they were
-pub record Living (o : Outcome SessionLive) (s : List ℕ) (r : Told) (t : List ℕ) : Type 0 where
-  pub lives : Lives o s r t
+-- the rows that it holds: none before an accepted (objects n)
+unfoldable pub indexedRows : Live → ℕ
+indexedRows l = cond (eqb (l .objects) 0) 0 (l .facts)
 
--- the first n words are 0, the others as they were
+-- it stands behind the facts
+pub record FactIndex (ar s : List ℕ) (l : Live) : Type 0 where
+  pub indexed : Indexed ar (part s factsBase (l .facts * factWords)) (part s indexBase indexWords) (indexedRows l)
+
+-- words that are no part of the index stay
+pub record Reindexed (s t : List ℕ) : Type 0 where
+  pub size : length t ≡ length s
+  pub front : take indexBase t ≡ take indexBase s
+
+-- and it has no rows
+pub record Unindexed (s t : List ℕ) : Type 0 where
+  pub stays : Reindexed s t
+  pub clean : Clean (part t indexBase indexWords)
+
+-- and it holds the first n rows of the facts
+pub record Rowed (ar s : List ℕ) (n : ℕ) (t : List ℕ) : Type 0 where
+  pub stays : Reindexed s t
+  pub indexed : Indexed ar (part t factsBase (n * factWords)) (part t indexBase indexWords) n
+
+-- and it is that of the state
+pub record Remade (ar s : List ℕ) (l : Live) (t : List ℕ) : Type 0 where
+  pub stays : Reindexed s t
+  pub index : FactIndex ar t l
+
+-- ===== Lines =====
+
+abbrev pub Lives : List ℕ → Outcome SessionLive → List ℕ → Told → List ℕ → Type 0
+Lives ar o s (Done l) t = (o ≡ ok (liveOf t l)) × GoodLive t l × FactIndex ar t l
+Lives ar o s (Refused r) t = (o ≡ refused r) × (t ≡ s)
+
+-- the state behind an accepted line, with the index of its facts; a refused one leaves the words as they were
+pub record Living (ar : List ℕ) (o : Outcome SessionLive) (s : List ℕ) (r : Told) (t : List ℕ) : Type 0 where
+  pub lives : Lives ar o s r t
+
+-- the same, whatever the arity list is: facts stay
+pub record Placing (o : Outcome SessionLive) (s : List ℕ) (l : Live) (r : Told) (t : List ℕ) : Type 0 where
+  pub living : (ar : List ℕ) → FactIndex ar s l → Living ar o s r t
+
+-- the first n words are 0
 pub record Cleared (s t : List ℕ) (n : ℕ) : Type 0 where
   pub size : length t ≡ length s
   pub zeros : (i : ℕ) → i < n → getD t i 0 ≡ 0
 
--- one fact more
-pub record Putting (s : List ℕ) (l : Live) (row t : List ℕ) : Type 0 where
-  pub live : liveOf t (record { objects = l .objects; facts = l .facts + 1; count = 0; total = 0 }) ≡ withFact (liveOf s l) row
-  pub good : GoodLive t (record { objects = l .objects; facts = l .facts + 1; count = 0; total = 0 })
+-- and the others are as they were
+pub record Unplaced (s t : List ℕ) (n : ℕ) : Type 0 where
+  pub cleared : Cleared s t n
+  pub rest : drop n t ≡ drop n s
+
+-- no constant is placed, and no fact indexed
+pub record Emptied (s t : List ℕ) : Type 0 where
+  pub cleared : Cleared s t factsBase
+  pub clean : Clean (part t indexBase indexWords)
 
 -- a row of a fact with no object yet
 pub record EmptyRow (row : List ℕ) : Type 0 where
@@ -88,4 +137,4 @@ kept row count v = cond (ltb count mostPlaces) (set row (1 + count) v) row
 
 -- a line (true p o ..) whose predicate has the key k and whose objects os are kept as o and the row
 pub record Telling (ar table : List ℕ) (n : Counts) (s : List ℕ) (l : Live) (k : Key) (o : Tuple) (row : List ℕ) (r : Told) (t : List ℕ) : Type 0 where
-  pub told : (os : List ℕ) → TupleOf (l .objects) os o row → Living (trueLine ar (namesOf table n) (liveOf s l) k os) s r t
+  pub told : (os : List ℕ) → TupleOf (l .objects) os o row → Living ar (trueLine ar (namesOf table n) (liveOf s l) k os) s r t

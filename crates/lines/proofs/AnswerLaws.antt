@@ -95,9 +95,9 @@ module _ {k : Kind} {s : List ℕ} (number : ℕ) {n : Numbers} {names arities l
       → Performed k s number n (memoryOf names arities listings table state value) r (memoryOf names arities listings table state value′) work′
   start-answers e c = performed e refl (rw e (c .says s names state (ready-as e h)))
 
-  pub objects-answers : {r : Said} {state′ : List ℕ} → k ≡ K.Objects → ObjectsSays s number n state r state′
+  pub objects-answers : {r : Said} {state′ : List ℕ} → k ≡ K.Objects → ObjectsSays s number n arities state r state′
       → Performed k s number n (memoryOf names arities listings table state value) r (memoryOf names arities listings table state′ value) work′
-  objects-answers e c = performed e refl (rw e (c .says names arities listings table value (ready-as e h)))
+  objects-answers e c = performed e refl (rw e (c .says names listings table value (ready-as e h)))
 
   pub is-answers : {r : Said} {state′ : List ℕ} → k ≡ K.Is → IsSays s number n names state r state′
       → Performed k s number n (memoryOf names arities listings table state value) r (memoryOf names arities listings table state′ value) work′
@@ -151,5 +151,5 @@ module _ {k : Kind} {s : List ℕ} (number : ℕ) {n : Numbers} {names arities l
   unfolding done
   bad-answers {r} e q =
       let w = memoryOf names arities listings table state value in
-      let a : Answers k s number n w (noLine number n) w = record { answer = rw e; session = rw e; stored = h .stored } in
+      let a : Answers k s number n w (noLine number n) w = record { answer = rw e; session = rw e; stored = h .stored; indexed = h .indexed } in
       performed e refl (subst (λ (x : Said). Answers k s number n w x w) (sym q) a)

@@ -9,17 +9,16 @@ use Rattle.basics.specs.Tests.{Cmp, below, equal, above, cmp}
 use Rattle.label.specs.Limits.{predicateCount, equality, equalityArity}
 use Rattle.diagram.specs.Diagram.{leaf}
 use Rattle.diagram.specs.Listing.{treeAt, diagramOf}
-use Rattle.refusal.specs.Outcome.{ok}
 use Rattle.names.specs.Many.{many}
 use Rattle.names.specs.Keys.{keysAt}
 use Rattle.session.specs.Session.{Session, opening, defaultTotal, defaultNumerator, defaultDenominator}
-use Rattle.session.specs.Facts.{objectsLine, cleared}
+use Rattle.session.specs.Facts.{cleared}
 use Rattle.session.specs.Good.{GoodSession}
 use Rattle.session_laws.specs.OpeningLaws.{opening-good}
 use Rattle.declare.specs.Tables.{namesOf}
-use Rattle.facts.specs.Words.{stateWords, factsBase, liveOf, Cleared}
-use Rattle.facts.proofs.StateLaws.{objects-done}
-use Rattle.modelling.specs.BuildingLaws.{begun, begun-model}
+use Rattle.facts.specs.Words.{stateWords, factsBase, liveOf, Cleared, Emptied}
+use Rattle.facts.specs.WordLaws.{cleared-live, index-none}
+use Rattle.model_entry.specs.BuildingLaws.{begun, begun-model}
 use Rattle.memory.specs.declared.Numbers.{Numbers}
 use Rattle.memory.specs.Memory.{memoryOf, sessionOf, Stored, Rooms, openingNumbers}
 use Rattle.lines.specs.Lines.{Opening, Opened}
@@ -69,25 +68,19 @@ session-ext : (σ τ : Session) → σ .part ≡ τ .part → σ .names ≡ τ .
     → σ .live ≡ τ .live → σ .held ≡ τ .held → σ ≡ τ
 session-ext σ τ a b c d e f g = λ i. record { part = a i; names = b i; singles = c i; model = d i; rows = e i; live = f i; held = g i }
 
-ok-is : {A : Type 0} {x y : A} → ok x ≡ ok y → x ≡ y
-ok-is e = cc
-
 -- no objects and no facts, no constant placed
 live-opening : {s t : List ℕ} → stateWords ≤ length s → Cleared s t factsBase → liveOf t (openingNumbers .live) ≡ opening .live
-unfolding objectsLine cleared liveOf opening
-live-opening {s} {t} r c =
-    let l = objects-done s 1 {t = t} (λ e. omega arith) (omega arith) r c in
-    let e = sym (ok-is (l .lives .0)) in
-    λ i. record { objects = 0; placed = e i .placed; constants = e i .constants; facts = []; count = 0; total = 0 }
+unfolding cleared opening
+live-opening r c = cleared-live 0 r c
 
-module _ {ar s t : List ℕ} (e : ar ≡ opening .model .arities) (r : stateWords ≤ length s) (c : Cleared s t factsBase) where
+module _ {ar s t : List ℕ} (e : ar ≡ opening .model .arities) (r : stateWords ≤ length s) (m : Emptied s t) where
   session-opening : (names listings table value : List ℕ) → sessionOf openingNumbers (memoryOf names ar listings table t value) ≡ opening
   unfolding sessionOf namesOf keysAt many diagramOf treeAt opening
   session-opening names listings table value =
       session-ext _ _ refl refl refl
       (begun-model ar listings table (openingNumbers .head) refl refl
       ∙ ap (λ x. record { arities = x; total = defaultTotal; numerator = defaultNumerator; denominator = defaultDenominator; reward = leaf 0; actions = [] }) e)
-      refl (live-opening r c) refl
+      refl (live-opening r (m .cleared)) refl
 
   stored-opening : {br names listings table value : List ℕ} → Rooms (memoryOf names br listings table s value)
       → Stored openingNumbers (memoryOf names ar listings table t value)
@@ -100,7 +93,7 @@ module _ {ar s t : List ℕ} (e : ar ≡ opening .model .arities) (r : stateWord
     listing-room = w .listings;
     whole = refl;
     reward = refl;
-    live = record { room = let z = c .size in omega arith; objects = omega arith; facts = omega arith };
+    live = record { room = let z = m .cleared .size in omega arith; objects = omega arith; facts = omega arith };
     value-room = w .value;
     value-rows = omega arith;
     holding = λ f. let z : _≡_ {A = ℕ} 0 1 = cc in absurd (omega arith);
@@ -110,7 +103,7 @@ module _ {ar s t : List ℕ} (e : ar ≡ opening .model .arities) (r : stateWord
       → Opening openingNumbers (memoryOf names ar listings table t value)
   opening-all br names listings table value w =
       let q = session-opening names listings table value in
-      record { kept = record { stored = stored-opening w; good = subst GoodSession (sym q) opening-good }; session = q }
+      record { kept = record { stored = stored-opening w; good = subst GoodSession (sym q) opening-good; indexed = index-none refl (m .clean) }; session = q }
 
-pub opened : {br ar s t : List ℕ} {n : Numbers} → stateWords ≤ length s → ar ≡ opening .model .arities → Cleared s t factsBase → n ≡ openingNumbers → Opened br s n ar t
-opened {br} r e c q = rw q (record { says = opening-all e r c br })
+pub opened : {br ar s t : List ℕ} {n : Numbers} → stateWords ≤ length s → ar ≡ opening .model .arities → Emptied s t → n ≡ openingNumbers → Opened br s n ar t
+opened {br} r e m q = rw q (record { says = opening-all e r m br })

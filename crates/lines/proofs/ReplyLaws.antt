@@ -119,7 +119,7 @@ module _ {n : Numbers} {w : Memory} {k : Kind} {rule : Rule} {p : Placed} (h : K
   answer-ready l e =
       let x = place-ok (sessionOf n w) k (n .part) b (c .is (w .names) (w .arities) (w .listings) (w .value)) e in
       let t = l .written (some-kind (sessionOf n w) k (n .part) x) in
-      record { line = record { words = t .0; good = t .1; bytes = t .2 }; stored = h .stored; good = h .good; place = x }
+      record { line = record { words = t .0; good = t .1; bytes = t .2 }; stored = h .stored; good = h .good; indexed = h .indexed; place = x }
 
   pub answer-refused : (s : List ℕ) (number : ℕ) {r : Refusal} → (length s ≡ 0 → ⊥) → k ≡ lineKind s → p ≡ Refused r
       → {work : List ℕ} → Replied s number n w (record { numbers = n; answer = A.Refused r number }) w work
@@ -143,6 +143,6 @@ module _ {n : Numbers} {w : Memory} {k : Kind} {rule : Rule} {p : Placed} (h : K
       record {
         answer = d .answer ∙ ap (λ t. t .answer) z;
         session = m;
-        kept = record { stored = d .stored; good = subst GoodSession (sym m) (kept-good n w h number s) };
+        kept = record { stored = d .stored; good = subst GoodSession (sym m) (kept-good n w h number s); indexed = d .indexed };
         shown = subst (λ (t : Reply). Shown t work′) z (f .shown);
       }

@@ -43,7 +43,7 @@ pub fn open(arities: &mut [u64], state: &mut [u64]) -> Numbers
     ensures { λ r. ⌜ Opened (now (arities .entry)) (now (state .entry)) r (now (arities .exit)) (now (state .exit)) ⌝ }
 {
     open_arities(arities);
-    facts::clear(state);
+    facts::open(state);
     memory::opening()
 }
 
@@ -282,10 +282,10 @@ fn perform(
         (now (work .exit)) ⌝ }
 {
     match kind {
-        Kind::Objects => state_lines::objects(line, number, n, state),
+        Kind::Objects => state_lines::objects(line, number, n, arities, state),
         Kind::Is => state_lines::is(line, number, n, names, state),
         Kind::True => state_lines::tell(line, number, n, names, arities, state),
-        Kind::Value => run_lines::value(number, n, arities, state, value),
+        Kind::Value => run_lines::value(number, n, arities, state, value, work),
         Kind::Constant
         | Kind::Predicate
         | Kind::Total

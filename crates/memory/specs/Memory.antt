@@ -23,9 +23,9 @@ use Rattle.session.specs.Texts.{tableOf}
 use Rattle.session.specs.Good.{GoodSession}
 use Rattle.declare.specs.Tables.{namesOf, GoodVocabulary}
 use Rattle.facts.specs.declared.Live.{Live}
-use Rattle.facts.specs.Words.{stateWords, liveOf, GoodLive}
+use Rattle.facts.specs.Words.{stateWords, liveOf, GoodLive, FactIndex}
 use Rattle.model.specs.Layout.{listingWords, tableWords, modelOf}
-use Rattle.modelling.specs.Building.{Building}
+use Rattle.model_entry.specs.Building.{Building}
 use Rattle.planner.specs.Run.{heldIn}
 use Rattle.memory.specs.declared.Numbers.{Numbers}
 use Rattle.memory.specs.declared.Said.{Said}
@@ -92,6 +92,7 @@ pub record Ready (k : Kind) (s : List ℕ) (n : Numbers) (w : Memory) : Type 0 w
   pub line : LineOf k s
   pub stored : Stored n w
   pub good : GoodSession (sessionOf n w)
+  pub indexed : FactIndex (w .arities) (w .state) (n .live)
   pub place : allowed (sessionOf n w) (ruleOf k (n .part)) ≡ ok tt
 
 -- what it promises: the answer, and the session behind it
@@ -99,11 +100,18 @@ pub record Answers (k : Kind) (s : List ℕ) (number : ℕ) (n : Numbers) (w : M
   pub answer : r .answer ≡ done (sessionOf n w) number k (wordsOf k s) .answer
   pub session : sessionOf (r .numbers) w′ ≡ done (sessionOf n w) number k (wordsOf k s) .session
   pub stored : Stored (r .numbers) w′
+  pub indexed : FactIndex (w′ .arities) (w′ .state) (r .numbers .live)
 
--- numbers and words that are a session's, from line to line
+-- numbers and words that are a session's; the index of its facts may be anything
+pub record IsSession (n : Numbers) (w : Memory) : Type 0 where
+  pub stored : Stored n w
+  pub good : GoodSession (sessionOf n w)
+
+-- the same with the index of its facts, from line to line
 pub record Kept (n : Numbers) (w : Memory) : Type 0 where
   pub stored : Stored n w
   pub good : GoodSession (sessionOf n w)
+  pub indexed : FactIndex (w .arities) (w .state) (n .live)
 
 -- the words that the answer of a reply shows stand in front of the working space: those of a spread for (count n), none for every other line
 -- (document 02, L11)

@@ -13,22 +13,23 @@ use Rattle.session.specs.declared.Rule.the-variants.{Misplaced}
 use Rattle.session.specs.Place.{ruleOf}
 use Rattle.session.specs.Session.{Session}
 use Rattle.session.specs.Replies.{Reply, allowed, quietly, done, wordsOf}
+use Rattle.facts.specs.Words.{FactIndex}
 use Rattle.memory.specs.declared.Numbers.{Numbers}
 use Rattle.memory.specs.Memory.{Memory, sessionOf, Stored, Ready, Answers}
 
 module _ {A : Type 0} {k : Kind} {s : List ℕ} {number : ℕ} {n : Numbers} {w : Memory} (f : A → Session) (o : Outcome A)
     (e : done (sessionOf n w) number k (wordsOf k s) ≡ quietly (sessionOf n w) number f o) where
-  pub quiet-refused : {why : Refusal} → o ≡ refused why → Stored n w
+  pub quiet-refused : {why : Refusal} → o ≡ refused why → Stored n w → FactIndex (w .arities) (w .state) (n .live)
       → Answers k s number n w (record { numbers = n; answer = Refused why number }) w
-  quiet-refused p t =
+  quiet-refused p t x =
       let q = e ∙ ap (quietly (sessionOf n w) number f) p in
-      record { answer = sym (ap (λ (r : Reply). r .answer) q); session = sym (ap (λ (r : Reply). r .session) q); stored = t }
+      record { answer = sym (ap (λ (r : Reply). r .answer) q); session = sym (ap (λ (r : Reply). r .session) q); stored = t; indexed = x }
 
-  pub quiet-done : {a : A} {n′ : Numbers} {w′ : Memory} → o ≡ ok a → sessionOf n′ w′ ≡ f a → Stored n′ w′
+  pub quiet-done : {a : A} {n′ : Numbers} {w′ : Memory} → o ≡ ok a → sessionOf n′ w′ ≡ f a → Stored n′ w′ → FactIndex (w′ .arities) (w′ .state) (n′ .live)
       → Answers k s number n w (record { numbers = n′; answer = Nothing }) w′
-  quiet-done p h t =
+  quiet-done p h t x =
       let q = e ∙ ap (quietly (sessionOf n w) number f) p in
-      record { answer = sym (ap (λ (r : Reply). r .answer) q); session = h ∙ sym (ap (λ (r : Reply). r .session) q); stored = t }
+      record { answer = sym (ap (λ (r : Reply). r .answer) q); session = h ∙ sym (ap (λ (r : Reply). r .session) q); stored = t; indexed = x }
 
 -- a line that may not stand in the run is met in the model
 pub no-run : {k : Kind} {s : List ℕ} {n : Numbers} {w : Memory} → ruleOf k Run ≡ Misplaced → Ready k s n w → n .part ≡ Run → ⊥

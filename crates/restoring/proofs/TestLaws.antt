@@ -25,7 +25,7 @@ use Rattle.facts.specs.declared.Live.{Live}
 use Rattle.facts.specs.Words.{part, factsBase, stateWords}
 use Rattle.model.specs.declared.Head.{Head}
 use Rattle.model.specs.Layout.{listingWords, tableWords, actionWords, variantsOf}
-use Rattle.modelling.specs.Building.{variantsBefore, FewVariants}
+use Rattle.model_entry.specs.Building.{variantsBefore, FewVariants}
 use Rattle.planner.specs.declared.Held.{Held}
 use Rattle.memory.specs.declared.Numbers.{Numbers}
 use Rattle.memory.specs.Memory.{memoryOf, Rooms}

@@ -3,7 +3,7 @@ use mathlib.Core.Path.{_≡_, sym, ap, ap₂, subst, _∙_}
 use mathlib.Core.Bool.{true, not}
 use mathlib.Core.List.{List, [], _∷_, _++_}
 use mathlib.Core.Option.{some}
-use Prim.Native.Nat.{ℕ, zero, suc, _+_, _*_, _-_, _≤_, _<_}
+use Prim.Native.Nat.{ℕ, zero, suc, _+_, _*_, _≤_, _<_}
 use native.Mathlib.Omega.{arith}
 use lib.ListN.{length, getD, take}
 use lib.Dec.{eqb}
@@ -28,10 +28,10 @@ use Rattle.session.specs.Good.{LastAction, GoodSession, GoodValue}
 use Rattle.declare.specs.Tables.{namesOf}
 use Rattle.facts.specs.Words.{liveOf}
 use Rattle.model.specs.Layout.{part, actionWords, variantPlace, weightWords, spansAt, variantAt, variantsOf, actionAt, rewardWords, modelOf}
-use Rattle.modelling.specs.Building.{truthPlace, Canonical, SpannedVariant, SpannedAction, ListedVariant, Building}
-use Rattle.modelling.specs.WordLaws.{span-count, span-start}
+use Rattle.model_entry.specs.Building.{truthPlace, Canonical, SpannedVariant, SpannedAction, ListedVariant, Building}
+use Rattle.model_entry.specs.WordLaws.{span-count, span-start}
 use Rattle.memory.specs.declared.Numbers.{Numbers}
-use Rattle.memory.specs.Memory.{Memory, sessionOf, Stored, Kept, Rooms}
+use Rattle.memory.specs.Memory.{Memory, sessionOf, Stored, IsSession, Rooms}
 use Rattle.memory.specs.StoredLaws.{stored-reward}
 use Rattle.checking.specs.DecisionLaws.{on, both, at-most}
 use Rattle.checking.specs.FittingLaws.{IsValue, FitVariant, FitAction}
@@ -289,8 +289,8 @@ module _ (n : Numbers) (w : Memory) where
       }
 
   -- and back
-  kept-rooms : Stored n w → Rooms w
-  kept-rooms s = record {
+  stored-rooms : Stored n w → Rooms w
+  stored-rooms s = record {
     names = s .vocabulary .names .room;
     arities = arities-long (w .arities) (s .vocabulary .arities);
     listings = s .listing-room;
@@ -299,9 +299,9 @@ module _ (n : Numbers) (w : Memory) where
     value = s .value-room;
   }
 
-  kept-model : Kept n w → ModelFit n (w .arities) (w .listings) (w .table)
+  session-model : IsSession n w → ModelFit n (w .arities) (w .listings) (w .table)
   unfolding sessionOf namesOf modelOf
-  kept-model k =
+  session-model k =
       let s = k .stored in
       let g = k .good in
       let p = g .parts in
@@ -344,9 +344,9 @@ module _ (n : Numbers) (w : Memory) where
         };
       }
 
-  kept-part : Kept n w → PartFit n (w .arities) (w .value) (n .part)
+  session-part : IsSession n w → PartFit n (w .arities) (w .value) (n .part)
   unfolding sessionOf modelOf liveOf scale
-  kept-part k =
+  session-part k =
       let s = k .stored in
       let g = k .good in
       record {
@@ -360,16 +360,16 @@ module _ (n : Numbers) (w : Memory) where
         };
       }
 
-  kept-fits : Kept n w → Fits n w
+  session-fits : IsSession n w → Fits n w
   unfolding sessionOf modelOf liveOf
-  kept-fits k = record {
-    rooms = kept-rooms (k .stored);
-    model = kept-model k;
+  session-fits k = record {
+    rooms = stored-rooms (k .stored);
+    model = session-model k;
     state = record { objects = k .stored .live .objects; facts = k .stored .live .facts; log = k .good .log; state = k .good .state };
     rows = k .stored .value-rows;
-    part-fits = kept-part k;
+    part-fits = session-part k;
   }
 
 -- numbers and words are a session's exactly if the test says so
-pub session-is : (n : Numbers) (w : Memory) → Decides (isSession n w) (Kept n w)
-session-is n w = on (fits-are n w) (λ f. record { stored = fits-stored n w f; good = fits-good n w f }) (λ k. kept-fits n w k)
+pub session-is : (n : Numbers) (w : Memory) → Decides (isSession n w) (IsSession n w)
+session-is n w = on (fits-are n w) (λ f. record { stored = fits-stored n w f; good = fits-good n w f }) (λ k. session-fits n w k)

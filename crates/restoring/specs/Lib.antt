@@ -2,7 +2,8 @@
 -- have come from lines, and then (value) is the value of the diagram in hand and not Mk, and (text) and (best) print the bytes that the keys hold, be they names or not;
 -- (best)'s move is then that of the diagram in hand, and (did ..) goes on from the count and total that they hold. Of their facts 9 counts every row: one that stands twice, or
 -- of equality or a predicate past 31, which are gone behind (did ..), and one of a predicate that is not declared, which it keeps and 22 counts too. A count above 0 may stand
--- beside no objects, or a constant that is not placed. (count n) judges all 16 words of constants, those too that are not declared.
+-- beside no objects, or a constant that is not placed. (count n) judges all 16 words of constants, those too that are not declared. The index of the facts is no
+-- part of the test: it may be anything.
 --
 -- Definitions
 --   roomsFit == every table has its room
@@ -12,7 +13,7 @@
 --   isSession == all of it
 --
 -- Theorem, in KeptLaws
---   session-is == the test is true exactly if the words are a session's (`Kept`), so that what opening or any line leaves is accepted again
+--   session-is == the test is true exactly if the words are a session's (`IsSession`), so that what opening or any line leaves is accepted again
 --
 -- PartLaws: each part of the test.
 

@@ -27,8 +27,8 @@ use Rattle.facts.specs.declared.Live.{Live}
 use Rattle.facts.specs.Words.{part, factsBase, stateWords, liveOf}
 use Rattle.model.specs.declared.Head.{Head}
 use Rattle.model.specs.Layout.{listingWords, tableWords, actionWords, variantPlace, variantAt, variantsOf, actionAt, rewardWords}
-use Rattle.modelling.specs.Building.{variantsBefore}
-use Rattle.modelling.specs.NameLaws.{variants-before}
+use Rattle.model_entry.specs.Building.{variantsBefore}
+use Rattle.model_entry.specs.NameLaws.{variants-before}
 use Rattle.planner.specs.declared.Held.{Held}
 use Rattle.memory.specs.declared.Numbers.{Numbers}
 use Rattle.memory.specs.Memory.{Memory, Rooms}

@@ -15,7 +15,7 @@ use Rattle.names.specs.Layout.{nameWords}
 use Rattle.session.specs.declared.Part.{Part}
 use Rattle.session.specs.declared.Part.the-variants.{Model, Run}
 use Rattle.session.specs.Good.{mostVariantNames}
-use Rattle.modelling.specs.Building.{variantsBefore}
+use Rattle.model_entry.specs.Building.{variantsBefore}
 use Rattle.declare.specs.declared.Counts.{Counts}
 use Rattle.facts.specs.declared.Live.{Live}
 use Rattle.facts.specs.Words.{part, factsBase, stateWords}

@@ -17,7 +17,7 @@ ghost use Rattle.diagram.specs.Words.{everyBelow};
 ghost use Rattle.mdp.specs.Model.{mostActions};
 ghost use Rattle.facts.specs.Words.{stateWords};
 ghost use Rattle.model.specs.Layout.{listingWords, tableWords};
-ghost use Rattle.modelling.specs.Building.{FewVariants};
+ghost use Rattle.model_entry.specs.Building.{FewVariants};
 ghost use Rattle.memory.specs.Memory.{memoryOf};
 ghost use Rattle.restoring.specs.Restoring.{roomsFit, countsFit, aritiesFit, headFits, rewardFits, lastNamed, lastFits, modelFits, logFits, stateFits, runFits, partFits, isSession};
 
@@ -191,7 +191,7 @@ fn last_fits(table: &[u64], n: Counts, actions: usize) -> bool
     if !last_named(table, n, actions) {
         return false;
     }
-    n.earlier + n.variants == modelling::variants_before(table, actions)
+    n.earlier + n.variants == model_entry::variants_before(table, actions)
 }
 
 // Whether words are a model while its lines are read, and all of it in the run.

@@ -101,6 +101,7 @@ module _ {s : List ℕ} (number : ℕ) {n : Numbers} {w : Memory} (r : Ready K.B
           steps = few-steps M (n .held .steps) (H .diagram) P (t .callable .steps) a;
           power = h .power;
         });
+        indexed = r .indexed;
       }
 
   stops-answers : {x : Refusal} → q ≡ Refused x → Answers K.Backup s number n w (record { numbers = n; answer = A.Refused x number }) (withValue w value)
@@ -108,7 +109,7 @@ module _ {s : List ℕ} (number : ℕ) {n : Numbers} {w : Memory} (r : Ready K.B
   stops-answers {x} e =
       let z = stopped (sessionOf n w) number H P (backup M (n .held .steps) (H .diagram)) (sym (b .answer) ∙ e) in
       subst (λ (v : List ℕ). Answers K.Backup s number n w (record { numbers = n; answer = A.Refused x number }) (withValue w v)) (sym (b .words ∙ z .words (w .value)))
-      (record { answer = z .answer; session = z .session; stored = r .stored })
+      (record { answer = z .answer; session = z .session; stored = r .stored; indexed = r .indexed })
 
 module _ {number : ℕ} {n : Numbers} {ar listings table value work : List ℕ} (t : BackupTask n ar listings table value work) {q : Backed} {value′ : List ℕ}
     (b : BackedUp ar (modelOf ar listings table (n .head)) (n .held .steps) (diagramOf (take (n .held .rows * 3) value)) q value value′) where

@@ -109,13 +109,14 @@ module _ {s : List ℕ} (number : ℕ) {n : Numbers} {w : Memory} (r : Ready K.R
         answer = left-says σ number H O (sym d ∙ a);
         session = ap₂ (withHeld σ) (sym (in-run refl r)) (c .is) ∙ left-session σ number H O (sym d ∙ a);
         stored = replaced-stored refl r c l;
+        indexed = r .indexed;
       }
 
   stays-answers : {x : Refusal} → q ≡ Refused x → Answers K.Reduce s number n w (record { numbers = n; answer = A.Refused x number }) w
   unfolding sessionOf done reduceLine
   stays-answers d =
       let σ = sessionOf n w in
-      record { answer = stays-says σ number H O (sym d ∙ a); session = stays-session σ number H O (sym d ∙ a); stored = r .stored }
+      record { answer = stays-says σ number H O (sym d ∙ a); session = stays-session σ number H O (sym d ∙ a); stored = r .stored; indexed = r .indexed }
 
 module _ {number : ℕ} {n : Numbers} {ar value : List ℕ} {q : Reduced} (a : q ≡ answerOf (reduceAnswer ar (diagramOf (take (n .held .rows * 3) value)))) where
   pub reduce-left : {m : ℕ} → q ≡ Done m → {h : Held} {value′ : List ℕ} → Replaced ar (n .held) value (reduceAnswer ar (diagramOf (take (n .held .rows * 3) value))) h value′

@@ -12,7 +12,7 @@ use Rattle.answers.specs.declared.Answer.the-variants as A
 use Rattle.text.specs.declared.Kind.the-variants as K
 use Rattle.session.specs.declared.Part.the-variants.{Run}
 use Rattle.session.specs.Session.{Session}
-use Rattle.session.specs.Modelling.{weighed}
+use Rattle.session.specs.ModelLines.{weighed}
 use Rattle.session.specs.Running.{withHeld, startLine}
 use Rattle.session.specs.Replies.{Reply, quietly, done}
 use Rattle.model.specs.Layout.{modelOf}
@@ -92,13 +92,14 @@ module _ {s : List ℕ} (number : ℕ) {n : Numbers} {w : Memory} (r : Ready K.S
           steps = omega arith;
           power = h .power;
         });
+        indexed = r .indexed;
       }
 
   fails-answers : {x : Refusal} → q ≡ Refused x → Answers K.Start s number n w (record { numbers = n; answer = A.Refused x number }) w
   unfolding sessionOf done startLine modelOf
   fails-answers e =
       let p = failed (sessionOf n w) T number O (sym a ∙ e) in
-      record { answer = p .0; session = p .1; stored = r .stored }
+      record { answer = p .0; session = p .1; stored = r .stored; indexed = r .indexed }
 
 module _ {number : ℕ} {n : Numbers} {ar listings table value work : List ℕ} (t : StartTask n ar listings table value work) {q : Weighed}
     (a : q ≡ weighedAs (weighed ar (n .head .total) (modelOf ar listings table (n .head) .actions))) where

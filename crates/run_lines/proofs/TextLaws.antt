@@ -58,6 +58,7 @@ module _ {s : List ℕ} (number : ℕ) {n : Numbers} {w : Memory} (r : Ready K.T
     answer = bytes-says (sessionOf n w) number (formLength (w .arities) T D) (isTooLong (w .arities) T D) (sym a ∙ d);
     session = same-session (sessionOf n w) number (formLength (w .arities) T D) (isTooLong (w .arities) T D);
     stored = r .stored;
+    indexed = r .indexed;
   }
 
   long-answers : q ≡ TooLong → Answers K.Text s number n w (record { numbers = n; answer = A.Refused Length number }) w
@@ -66,6 +67,7 @@ module _ {s : List ℕ} (number : ℕ) {n : Numbers} {w : Memory} (r : Ready K.T
     answer = long-says (sessionOf n w) number (formLength (w .arities) T D) (isTooLong (w .arities) T D) (sym a ∙ d);
     session = same-session (sessionOf n w) number (formLength (w .arities) T D) (isTooLong (w .arities) T D);
     stored = r .stored;
+    indexed = r .indexed;
   }
 
 module _ {number : ℕ} {n : Numbers} {names ar value : List ℕ} {q : Measured}

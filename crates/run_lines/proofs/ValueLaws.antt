@@ -18,7 +18,9 @@ use Rattle.state.specs.declared.Valued.{Valued}
 use Rattle.state.specs.declared.Valued.the-variants.{Value, Refused}
 use Rattle.minimum.specs.Number.{number}
 use Rattle.elimination.specs.Answer.{isTooLarge}
+use Rattle.fact_index.specs.Index.{indexedCount, Indexed}
 use Rattle.valuing.specs.Walks.{boundAnswer}
+use Rattle.valuing.proofs.CheckLaws.{lent-some}
 use Rattle.refusal.specs.Outcome.{Outcome, ok, refused}
 use Rattle.mdp.specs.Model.{scale}
 use Rattle.answers.specs.declared.Answer.the-variants as A
@@ -26,7 +28,8 @@ use Rattle.text.specs.declared.Kind.the-variants as K
 use Rattle.session.specs.Session.{Live, Session, refuseIf}
 use Rattle.session.specs.Running.{stateIn, valueRead}
 use Rattle.session.specs.Replies.{valueSays, done}
-use Rattle.facts.specs.Words.{factsBase, part, liveOf}
+use Rattle.facts.specs.Words.{factsBase, indexBase, indexWords, part, liveOf}
+use Rattle.facts.specs.WordLaws.{index-all}
 use Rattle.memory.specs.declared.Numbers.{Numbers}
 use Rattle.memory.specs.Memory.{Memory, sessionOf, Ready, Answers}
 use Rattle.memory.specs.RunLaws.{run-holding}
@@ -34,15 +37,22 @@ use Rattle.run_lines.specs.Lines.{ValueTask, ValueAnswered}
 
 -- ===== What is lent =====
 
-module _ {n : Numbers} {ar state value : List ℕ} (t : ValueTask n ar state value) where
+module _ {n : Numbers} {ar state value work : List ℕ} (t : ValueTask n ar state value work) where
   pub rows-long : n .held .rows * 3 ≡ length (take (n .held .rows * 3) value)
   rows-long = sym (length-take-le (n .held .rows * 3) value (t .rows))
 
   pub constants-long : constantCount ≡ length (take constantCount state)
   constants-long = sym (length-take-le constantCount state (omega (arith, t .live .room)))
 
-  pub value-lent : {ps : List ℕ} → ps ≡ part state factsBase (n .live .facts * factWords) → isState ar (n .live .objects) (take constantCount state) ps ≡ true
-  value-lent f = subst (λ (fs : List ℕ). isState ar (n .live .objects) (take constantCount state) fs ≡ true) (sym f) (t .lent)
+  -- the facts as they are lent
+  module _ {ps : List ℕ} (f : ps ≡ part state factsBase (n .live .facts * factWords)) where
+    pub value-lent : isState ar (n .live .objects) (take constantCount state) ps ≡ true
+    value-lent = subst (λ (fs : List ℕ). isState ar (n .live .objects) (take constantCount state) fs ≡ true) (sym f) (t .lent)
+
+    pub value-indexed : Indexed ar ps (part state indexBase indexWords) (indexedCount ps (part state indexBase indexWords))
+    value-indexed =
+        subst (λ (fs : List ℕ). Indexed ar fs (part state indexBase indexWords) (indexedCount fs (part state indexBase indexWords))) (sym f)
+        (index-all (t .live) (lent-some ar (n .live .objects) _ _ (t .lent)) (t .indexed))
 
 -- ===== The value call reads the value =====
 
@@ -100,11 +110,12 @@ module _ {s : List ℕ} (number : ℕ) {n : Numbers} {w : Memory} (r : Ready K.V
     answer = read-answer (sessionOf n w) number O (sym a ∙ e) (run-holding refl r .power);
     session = same-session (sessionOf n w) number O;
     stored = r .stored;
+    indexed = r .indexed;
   }
 
   unread-answers : {x : Refusal} → q ≡ Refused x → Answers K.Value s number n w (record { numbers = n; answer = A.Refused x number }) w
   unfolding sessionOf done
-  unread-answers e = record { answer = unread-answer (sessionOf n w) number O (sym a ∙ e); session = same-session (sessionOf n w) number O; stored = r .stored }
+  unread-answers e = record { answer = unread-answer (sessionOf n w) number O (sym a ∙ e); session = same-session (sessionOf n w) number O; stored = r .stored; indexed = r .indexed }
 
 module _ {number : ℕ} {n : Numbers} {ar state value ps : List ℕ} (f : ps ≡ part state factsBase (n .live .facts * factWords)) {q : Valued}
     (a : q ≡ boundAnswer ar (take (n .held .rows * 3) value) (n .live .objects) (take constantCount state) ps []) where

@@ -6,11 +6,12 @@ use mathlib.Core.List.{List}
 use Prim.Native.Nat.{ℕ, _*_, _≤_}
 use lib.ListN.{length, take}
 use Rattle.label.specs.Limits.{constantCount}
+use Rattle.diagram.specs.Sizes.{mostRows}
 use Rattle.diagram.specs.Words.{isListing}
 use Rattle.state.specs.Lent.{factWords, isState}
 use Rattle.text.specs.declared.Kind.the-variants.{Start, Value, Backup, Cut, Reduce, Show, Text}
 use Rattle.session.specs.declared.Part.the-variants.{Run}
-use Rattle.facts.specs.Words.{factsBase, part, GoodLive}
+use Rattle.facts.specs.Words.{factsBase, part, GoodLive, FactIndex}
 use Rattle.model.specs.Layout.{modelOf, Laid}
 use Rattle.planner.specs.declared.Held.{Held}
 use Rattle.planner.specs.Run.{Room, Callable}
@@ -39,12 +40,14 @@ pub record StartTask (n : Numbers) (arities listings table value work : List ℕ
   pub laid : Laid arities listings table (n .head)
   pub room : Room value work
 
--- a state, and the listing of a value
-pub record ValueTask (n : Numbers) (arities state value : List ℕ) : Type 0 where
+-- a state with the index of its facts, the listing of a value, and room for a number for each row
+pub record ValueTask (n : Numbers) (arities state value work : List ℕ) : Type 0 where
   pub live : GoodLive state (n .live)
+  pub indexed : FactIndex arities state (n .live)
   pub lent : isState arities (n .live .objects) (take constantCount state) (part state factsBase (n .live .facts * factWords)) ≡ true
   pub listing : isListing arities (take (n .held .rows * 3) value) ≡ true
   pub rows : n .held .rows * 3 ≤ length value
+  pub room : mostRows ≤ length work
 
 -- a model laid out, what is held of its run, and room for the next value and for the rows formed
 pub record BackupTask (n : Numbers) (arities listings table value work : List ℕ) : Type 0 where

@@ -1,11 +1,12 @@
 -- What holds where a line stands where it may: what the line's function requires.
 use mathlib.Core.Path.{_≡_, refl}
-use mathlib.Core.Bool.{Bool, true, false, not}
+use mathlib.Core.Bool.{true}
 use mathlib.Core.List.{List}
 use Prim.Native.Nat.{ℕ, _≤_}
 use native.Mathlib.Omega.{arith}
 use lib.ListN.{length}
 use Rattle.basics.specs.Tests.{and-left}
+use Rattle.refusal.specs.declared.Refusal.the-variants.{Place}
 use Rattle.refusal.specs.Outcome.{ok}
 use Rattle.mdp.specs.Model.{GoodModel}
 use Rattle.text.specs.declared.Kind.{Kind}
@@ -15,14 +16,14 @@ use Rattle.session.specs.declared.Part.the-variants.{Model, Run}
 use Rattle.session.specs.declared.Rule.the-variants.{Misplaced}
 use Rattle.session.specs.Session.{Session}
 use Rattle.session.specs.Place.{ruleOf}
-use Rattle.session.specs.Replies.{isWhole, isPlaced, unless, allowed}
+use Rattle.session.specs.Replies.{isWhole, isPlaced, allowed}
 use Rattle.facts.specs.Words.{liveOf}
 use Rattle.model.specs.Layout.{modelOf}
 use Rattle.planner.specs.Run.{Room, ReplaceTask}
 use Rattle.memory.specs.declared.Numbers.{Numbers}
 use Rattle.memory.specs.Memory.{Memory, sessionOf, Stored, Ready, workWords}
 use Rattle.memory.specs.StoredLaws.{stored-reward}
-use Rattle.memory.specs.RunLaws.{in-run, run-holding, run-within, stored-laid, run-laid, placed-state}
+use Rattle.memory.specs.RunLaws.{in-run, unrefused, run-holding, run-within, stored-laid, run-laid, placed-state}
 use Rattle.run_lines.specs.Lines.{StartTask, ValueTask, BackupTask, TextTask}
 
 -- room for a value and for the rows formed
@@ -31,13 +32,9 @@ stored-room s l = record { value-room = s .value-room; work-room = omega (arith,
 
 -- ===== (start) =====
 
-unless-not : (b : Bool) → unless (not b) ≡ ok tt → b ≡ true
-unless-not true e = refl
-unless-not false e = let z : _≡_ {A = ℕ} 0 1 = cc in absurd (omega arith)
-
 placed-whole : (σ : Session) (p : Part) → allowed σ (ruleOf Start p) ≡ ok tt → isWhole σ ≡ true
 unfolding allowed
-placed-whole σ Model e = unless-not (isWhole σ) e
+placed-whole σ Model e = unrefused Place (isWhole σ) e
 placed-whole σ Run e = let z : _≡_ {A = ℕ} 0 1 = cc in absurd (omega arith)
 
 module _ {s : List ℕ} {n : Numbers} {w : Memory} (r : Ready Start s n w) where
@@ -72,16 +69,19 @@ module _ {s : List ℕ} {n : Numbers} {w : Memory} (r : Ready Start s n w) where
 
 value-placed : (σ : Session) (p : Part) → allowed σ (ruleOf Value p) ≡ ok tt → isPlaced σ ≡ true
 unfolding allowed
-value-placed σ Run e = unless-not (isPlaced σ) e
+value-placed σ Run e = unrefused Place (isPlaced σ) e
 value-placed σ Model e = let z : _≡_ {A = ℕ} 0 1 = cc in absurd (omega arith)
 
-pub value-task : {s : List ℕ} {n : Numbers} {w : Memory} → Ready Value s n w → ValueTask n (w .arities) (w .state) (w .value)
+pub value-task : {s : List ℕ} {n : Numbers} {w : Memory} {work : List ℕ} → Ready Value s n w → workWords ≤ length work
+    → ValueTask n (w .arities) (w .state) (w .value) work
 unfolding liveOf
-value-task {s} {n} {w} r = record {
+value-task {s} {n} {w} r l = record {
   live = r .stored .live;
+  indexed = r .indexed;
   lent = placed-state r (value-placed (sessionOf n w) (n .part) (r .place));
   listing = run-holding refl r .listing;
   rows = r .stored .value-rows;
+  room = omega (arith, l);
 }
 
 -- ===== (backup) =====

@@ -72,20 +72,29 @@ pub fn start(
 }
 
 // (value): the value in the state, k and S^k, or the refusal.
-pub fn value(number: u64, n: Numbers, arities: &[u64], state: &[u64], value: &[u64]) -> Said
-    requires { ⌜ ValueTask n (now arities) (now state) (now value) ⌝ }
+pub fn value(
+    number: u64,
+    n: Numbers,
+    arities: &[u64],
+    state: &[u64],
+    value: &[u64],
+    work: &mut [u64],
+) -> Said
+    requires { ⌜ ValueTask n (now arities) (now state) (now value) (now work) ⌝ }
     ensures { λ r. ⌜ ValueAnswered number n (now (arities .entry)) (now (state .entry)) (now (value .entry)) r ⌝ }
 {
     let held = n.held;
     let live = n.live;
     let rows = held.rows;
     let end = facts::FACTS_BASE + live.facts * facts::FACT_WORDS;
-    let v = valuing::value_listed(
+    let v = valuing::value_indexed(
         arities,
         &value[..rows * 3],
         live.objects,
         &state[..facts::PLACED],
         &state[facts::FACTS_BASE..end],
+        &state[facts::INDEX_BASE..facts::WORDS],
+        work,
     );
     match v {
         Valued::Value(x) => Said {

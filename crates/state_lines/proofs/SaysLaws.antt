@@ -21,9 +21,9 @@ use Rattle.facts.specs.declared.Live.{Live}
 use Rattle.facts.specs.declared.Told.{Told}
 use Rattle.facts.specs.declared.Told.the-variants.{Done, Refused}
 use Rattle.facts.specs.declared.Tuple.{Tuple}
-use Rattle.facts.specs.Words.{liveOf, Lives, Living, TupleOf, Telling}
+use Rattle.facts.specs.Words.{liveOf, FactIndex, Lives, Living, Placing, TupleOf, Telling}
 use Rattle.memory.specs.declared.Numbers.{Numbers}
-use Rattle.memory.specs.Memory.{memoryOf, sessionOf, Stored, Answers, withState}
+use Rattle.memory.specs.Memory.{memoryOf, sessionOf, Ready, Answers, withState}
 use Rattle.memory.specs.StoredLaws.{stored-state}
 use Rattle.memory.specs.WordLaws.{first-is, second-is, rest-is}
 use Rattle.memory.specs.QuietLaws.{quiet-refused, quiet-done}
@@ -34,55 +34,55 @@ use Rattle.state_lines.specs.Lines.{ObjectsSays, IsSays, TrueSays}
 module _ {k : Kind} {s : List ℕ} {number : ℕ} {n : Numbers} {names ar ls tb st v : List ℕ} (o : Outcome SessionLive)
     (e : done (sessionOf n (memoryOf names ar ls tb st v)) number k (wordsOf k s)
     ≡ quietly (sessionOf n (memoryOf names ar ls tb st v)) number (withLive (sessionOf n (memoryOf names ar ls tb st v))) o)
-    (r : Stored n (memoryOf names ar ls tb st v)) where
-  lives-done : (st′ : List ℕ) (l : Live) → Lives o st (Done l) st′
+    (r : Ready k s n (memoryOf names ar ls tb st v)) where
+  lives-done : (st′ : List ℕ) (l : Live) → Lives ar o st (Done l) st′
       → Answers k s number n (memoryOf names ar ls tb st v) (record { numbers = withState n l; answer = Nothing }) (memoryOf names ar ls tb st′ v)
   unfolding sessionOf
-  lives-done st′ l h = quiet-done (withLive (sessionOf n (memoryOf names ar ls tb st v))) o e (h .0) refl (stored-state st′ l r (h .1))
+  lives-done st′ l h = quiet-done (withLive (sessionOf n (memoryOf names ar ls tb st v))) o e (h .0) refl (stored-state st′ l (r .stored) (h .1)) (h .2)
 
-  lives-refused : {why : Refusal} {st′ : List ℕ} → Lives o st (Refused why) st′
+  lives-refused : {why : Refusal} {st′ : List ℕ} → Lives ar o st (Refused why) st′
       → Answers k s number n (memoryOf names ar ls tb st v) (record { numbers = n; answer = RefusedAs why number }) (memoryOf names ar ls tb st′ v)
   lives-refused {why} h =
       subst (λ y. Answers k s number n (memoryOf names ar ls tb st v) (record { numbers = n; answer = RefusedAs why number }) (memoryOf names ar ls tb y v)) (sym (h .1))
-      (quiet-refused (withLive (sessionOf n (memoryOf names ar ls tb st v))) o e (h .0) r)
+      (quiet-refused (withLive (sessionOf n (memoryOf names ar ls tb st v))) o e (h .0) (r .stored) (r .indexed))
 
-lives-as : {o o′ : Outcome SessionLive} {st st′ : List ℕ} {d r : Told} → Living o st d st′ → o ≡ o′ → d ≡ r → Lives o′ st r st′
-lives-as {o} {o′} {st} {st′} {d} {r} g p q = subst (λ y. Lives o′ st y st′) q (subst (λ y. Lives y st d st′) p (g .lives))
+lives-as : {ar : List ℕ} {o o′ : Outcome SessionLive} {st st′ : List ℕ} {d r : Told} → Living ar o st d st′ → o ≡ o′ → d ≡ r → Lives ar o′ st r st′
+lives-as {ar} {o} {o′} {st} {st′} {d} {r} g p q = subst (λ y. Lives ar o′ st y st′) q (subst (λ y. Lives ar y st d st′) p (g .lives))
 
 -- ===== (objects n) =====
 
-module _ (s : List ℕ) {st st′ : List ℕ} {i : ℕ} {x : Next} {c : ℕ} {d : Told}
-    (p : i ≡ firstWord Objects) (q : x ≡ nextAt s i) (u : c ≡ numberIn (x .event)) (g : Living (objectsLine c) st d st′) where
-  objects-lives : {r : Told} → d ≡ r → Lives (objectsLine (numberIn (wordAt (wordsOf Objects s) 0))) st r st′
+module _ (s : List ℕ) {ar st st′ : List ℕ} {i : ℕ} {x : Next} {c : ℕ} {d : Told}
+    (p : i ≡ firstWord Objects) (q : x ≡ nextAt s i) (u : c ≡ numberIn (x .event)) (g : Living ar (objectsLine c) st d st′) where
+  objects-lives : {r : Told} → d ≡ r → Lives ar (objectsLine (numberIn (wordAt (wordsOf Objects s) 0))) st r st′
   objects-lives e = lives-as g (ap objectsLine (u ∙ ap numberIn (first-is Objects s p q))) e
 
   pub objects-done : {number : ℕ} {n m : Numbers} {l : Live} → d ≡ Done l → m ≡ withState n l
-      → ObjectsSays s number n st (record { numbers = m; answer = Nothing }) st′
+      → ObjectsSays s number n ar st (record { numbers = m; answer = Nothing }) st′
   unfolding done
   objects-done {number} {n} {m} {l} e f =
-      subst (λ y. ObjectsSays s number n st (record { numbers = y; answer = Nothing }) st′) (sym f)
+      subst (λ y. ObjectsSays s number n ar st (record { numbers = y; answer = Nothing }) st′) (sym f)
       (record {
-        says = λ names ar ls tb v r. lives-done (objectsLine (numberIn (wordAt (wordsOf Objects s) 0))) refl (r .stored) st′ l (objects-lives e);
+        says = λ names ls tb v r. lives-done (objectsLine (numberIn (wordAt (wordsOf Objects s) 0))) refl r st′ l (objects-lives e);
       })
 
   pub objects-refused : {number : ℕ} {n : Numbers} {why : Refusal} → d ≡ Refused why
-      → ObjectsSays s number n st (record { numbers = n; answer = RefusedAs why number }) st′
+      → ObjectsSays s number n ar st (record { numbers = n; answer = RefusedAs why number }) st′
   unfolding done
   objects-refused e = record {
-    says = λ names ar ls tb v r. lives-refused (objectsLine (numberIn (wordAt (wordsOf Objects s) 0))) refl (r .stored) (objects-lives e);
+    says = λ names ls tb v r. lives-refused (objectsLine (numberIn (wordAt (wordsOf Objects s) 0))) refl r (objects-lives e);
   }
 
 -- ===== (is c o) =====
 
 module _ (s : List ℕ) (n : Numbers) (names : List ℕ) {st st′ : List ℕ} {i : ℕ} {x y : Next} {k : Key} {a : ℕ} {d : Told}
     (p : i ≡ firstWord Is) (q : x ≡ nextAt s i) (u : k ≡ keyIn (x .event)) (w : y ≡ nextAt s (x .place)) (z : a ≡ numberIn (y .event))
-    (g : Living (isLine (namesOf names (n .counts)) (liveOf st (n .live)) k a) st d st′) where
+    (g : Placing (isLine (namesOf names (n .counts)) (liveOf st (n .live)) k a) st (n .live) d st′) where
   abbrev placing : Outcome SessionLive
   placing = isLine (namesOf names (n .counts)) (liveOf st (n .live)) (keyIn (wordAt (wordsOf Is s) 0)) (numberIn (wordAt (wordsOf Is s) 1))
 
-  is-lives : {r : Told} → d ≡ r → Lives placing st r st′
-  is-lives e =
-      lives-as g
+  is-lives : {ar : List ℕ} {r : Told} → FactIndex ar st (n .live) → d ≡ r → Lives ar placing st r st′
+  is-lives {ar} h e =
+      lives-as (g .living ar h)
       (ap₂ (isLine (namesOf names (n .counts)) (liveOf st (n .live))) (u ∙ ap keyIn (first-is Is s p q)) (z ∙ ap numberIn (second-is Is s p q w))) e
 
   pub is-done : {number : ℕ} {m : Numbers} {l : Live} → d ≡ Done l → m ≡ withState n l
@@ -90,12 +90,12 @@ module _ (s : List ℕ) (n : Numbers) (names : List ℕ) {st st′ : List ℕ} {
   unfolding done sessionOf
   is-done {number} {m} {l} e f =
       subst (λ h. IsSays s number n names st (record { numbers = h; answer = Nothing }) st′) (sym f)
-      (record { says = λ ar ls tb v r. lives-done placing refl (r .stored) st′ l (is-lives e) })
+      (record { says = λ ar ls tb v r. lives-done placing refl r st′ l (is-lives (r .indexed) e) })
 
   pub is-refused : {number : ℕ} {why : Refusal} → d ≡ Refused why
       → IsSays s number n names st (record { numbers = n; answer = RefusedAs why number }) st′
   unfolding done sessionOf
-  is-refused e = record { says = λ ar ls tb v r. lives-refused placing refl (r .stored) (is-lives e) }
+  is-refused e = record { says = λ ar ls tb v r. lives-refused placing refl r (is-lives (r .indexed) e) }
 
 -- ===== (true p o ..) =====
 
@@ -105,7 +105,7 @@ module _ (s : List ℕ) (n : Numbers) (names ar : List ℕ) {st st′ : List ℕ
   abbrev telling : Outcome SessionLive
   telling = trueLine ar (namesOf names (n .counts)) (liveOf st (n .live)) (keyIn (wordAt (wordsOf True s) 0)) (numbersIn (drop 1 (wordsOf True s)))
 
-  true-lives : {r : Told} → d ≡ r → Lives telling st r st′
+  true-lives : {r : Told} → d ≡ r → Lives ar telling st r st′
   true-lives e =
       lives-as (g .told (numbersIn (eventsOf (drop (x .place) s))) w)
       (ap₂ (λ h es. trueLine ar (namesOf names (n .counts)) (liveOf st (n .live)) h (numbersIn es)) (u ∙ ap keyIn (first-is True s p q)) (rest-is True s p q)) e
@@ -115,9 +115,9 @@ module _ (s : List ℕ) (n : Numbers) (names ar : List ℕ) {st st′ : List ℕ
   unfolding done sessionOf
   true-done {number} {m} {l} e f =
       subst (λ h. TrueSays s number n names ar st (record { numbers = h; answer = Nothing }) st′) (sym f)
-      (record { says = λ ls tb v r. lives-done telling refl (r .stored) st′ l (true-lives e) })
+      (record { says = λ ls tb v r. lives-done telling refl r st′ l (true-lives e) })
 
   pub true-refused : {number : ℕ} {why : Refusal} → d ≡ Refused why
       → TrueSays s number n names ar st (record { numbers = n; answer = RefusedAs why number }) st′
   unfolding done sessionOf
-  true-refused e = record { says = λ ls tb v r. lives-refused telling refl (r .stored) (true-lives e) }
+  true-refused e = record { says = λ ls tb v r. lives-refused telling refl r (true-lives e) }

@@ -6,19 +6,20 @@ use lib.ListN.{length}
 use Rattle.text.specs.declared.Kind.the-variants.{Objects, Is, True}
 use Rattle.events.specs.Events.{firstWord}
 use Rattle.declare.specs.Tables.{GoodNames, GoodVocabulary}
-use Rattle.facts.specs.Words.{stateWords, mostBytes, GoodLive}
+use Rattle.facts.specs.Words.{mostBytes, GoodLive, FactIndex}
 use Rattle.memory.specs.declared.Numbers.{Numbers}
 use Rattle.memory.specs.declared.Said.{Said}
 use Rattle.memory.specs.Memory.{memoryOf, Ready, Answers}
 
 -- ===== (objects n) =====
 
-pub record ForObjects (s state : List ℕ) : Type 0 where
+pub record ForObjects (s : List ℕ) (n : Numbers) (arities state : List ℕ) : Type 0 where
   pub begins : firstWord Objects ≤ length s
-  pub room : stateWords ≤ length state
+  pub live : GoodLive state (n .live)
+  pub indexed : FactIndex arities state (n .live)
 
-pub record ObjectsSays (s : List ℕ) (number : ℕ) (n : Numbers) (state : List ℕ) (r : Said) (state′ : List ℕ) : Type 0 where
-  pub says : (names arities listings table value : List ℕ) → Ready Objects s n (memoryOf names arities listings table state value)
+pub record ObjectsSays (s : List ℕ) (number : ℕ) (n : Numbers) (arities state : List ℕ) (r : Said) (state′ : List ℕ) : Type 0 where
+  pub says : (names listings table value : List ℕ) → Ready Objects s n (memoryOf names arities listings table state value)
       → Answers Objects s number n (memoryOf names arities listings table state value) r (memoryOf names arities listings table state′ value)
 
 -- ===== (is c o) =====
@@ -39,6 +40,8 @@ pub record ForTrue (s : List ℕ) (n : Numbers) (names arities state : List ℕ)
   pub ends : length s ≤ mostBytes
   pub good : GoodVocabulary names arities (n .counts)
   pub live : GoodLive state (n .live)
+  pub indexed : FactIndex arities state (n .live)
+  pub some : 1 ≤ n .live .objects
 
 pub record TrueSays (s : List ℕ) (number : ℕ) (n : Numbers) (names arities state : List ℕ) (r : Said) (state′ : List ℕ) : Type 0 where
   pub says : (listings table value : List ℕ) → Ready True s n (memoryOf names arities listings table state value)

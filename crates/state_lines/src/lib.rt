@@ -7,14 +7,14 @@ use text::Kind;
 ghost use Rattle.state_lines.specs.Lines.{ForObjects, ObjectsSays, ForIs, IsSays, ForTrue, TrueSays};
 
 // (objects n)
-pub fn objects(line: &[u8], number: u64, n: Numbers, state: &mut [u64]) -> Said
-    requires { ⌜ ForObjects (now line) (now state) ⌝ }
-    ensures { λ r. ⌜ ObjectsSays (now (line .entry)) number n (now (state .entry)) r (now (state .exit)) ⌝ }
+pub fn objects(line: &[u8], number: u64, n: Numbers, arities: &[u64], state: &mut [u64]) -> Said
+    requires { ⌜ ForObjects (now line) n (now arities) (now state) ⌝ }
+    ensures { λ r. ⌜ ObjectsSays (now (line .entry)) number n (now (arities .entry)) (now (state .entry)) r (now (state .exit)) ⌝ }
 {
     let next = events::next_event(line, events::first_word(Kind::Objects));
     let event = next.event;
     let count = events::number_in(event);
-    match facts::objects(state, count) {
+    match facts::objects(arities, state, n.live, count) {
         Told::Done(live) => Said {
             numbers: memory::with_state(n, live),
             answer: Answer::Nothing,

@@ -28,7 +28,7 @@ use Rattle.steps.specs.declared.Step.the-variants.{Rows, Refused as Stopped}
 use Rattle.steps.specs.Steps.{Given}
 use Rattle.steps.specs.GivenLaws.{then-then, then-same, step-refused, result-long, result-few}
 use Rattle.steps.specs.FoldLaws.{many-more, refused-stays}
-use Rattle.session.specs.Modelling.{weightsSum, weighed}
+use Rattle.session.specs.ModelLines.{weightsSum, weighed}
 use Rattle.weights.specs.declared.Weighed.{Weighed}
 use Rattle.weights.specs.declared.Weighed.the-variants.{Done, Refused}
 use Rattle.weights.specs.Weighing.{weighedAs, judgedAs, ActionTask, Weighable}

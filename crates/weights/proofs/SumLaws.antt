@@ -20,7 +20,7 @@ use Rattle.steps.specs.declared.Step.the-variants.{Rows, Refused}
 use Rattle.steps.specs.Steps.{Given, Begun, Folding}
 use Rattle.steps.specs.GivenLaws.{then-then, then-same, given-same}
 use Rattle.steps.specs.FoldLaws.{Folded, folded-start, folded-begins, folded-stops, folded-on, folded-end}
-use Rattle.session.specs.Modelling.{weightsSum}
+use Rattle.session.specs.ModelLines.{weightsSum}
 use Rattle.weights.specs.Weighing.{AddTask, SumTask}
 
 -- ===== A weight added =====

@@ -1,4 +1,4 @@
-// The weights of a model in lent words, as (start) checks them. What is checked stands in crate session, specs/Modelling.
+// The weights of a model in lent words, as (start) checks them. What is checked stands in crate session, specs/ModelLines.
 use apply::Operation;
 use contradict::Led;
 use model::Head;
@@ -15,7 +15,7 @@ ghost use Rattle.apply.specs.declared.Names.the-variants.{Shared};
 ghost use Rattle.mdp.specs.Backup.{combined};
 ghost use Rattle.model.specs.Layout.{variantAt, actionAt, modelOf};
 ghost use Rattle.steps.specs.Steps.{Given};
-ghost use Rattle.session.specs.Modelling.{weightsSum, weighed};
+ghost use Rattle.session.specs.ModelLines.{weightsSum, weighed};
 ghost use Rattle.weights.specs.Weighing.{weighedAs, judgedAs, AddTask, SumTask, ActionTask, Weighable};
 
 // What the check of the weights answers: each action's sum leads to W only, or the first refusal met.

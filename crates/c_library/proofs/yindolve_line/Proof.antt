@@ -1,5 +1,5 @@
-use mathlib.Core.Path.{refl}
-use Rattle.c_library.proofs.SessionLaws.{given, line-refused, line-kept, line-few, line-done}
+use mathlib.Core.Path.{refl, _∙_}
+use Rattle.c_library.proofs.SessionLaws.{given, line-refused, line-live, line-kept, line-few, line-done}
 use Rattle.memory.specs.Memory.{memoryOf}
 use native.Mathlib.Omega.{arith}
 use borrow.Author.Needs.{needs}
@@ -21,9 +21,19 @@ position-requires c κs =
     given (a .numbers .now) (memoryOf (a .names .now) (a .arities .now) (a .listings .now) (a .table .now) (a .state .now) (a .value .now))
     (a .work .now) (a .answer .now) 1 (ent .enter .ensures) (test .if1 .left) .numbers-room
 
+remake-index-requires : tie.Need-remake-index-requires
+remake-index-requires c κs =
+    let pos = c .before .before .before in
+    let test = pos .before .before in
+    let ent = test .before in
+    let a = ent .before .before .before .before .before .before .before .before .before .before .before .before .before .before .before .before .before .before .before .before .args in
+    let g = given (a .numbers .now) (memoryOf (a .names .now) (a .arities .now) (a .listings .now) (a .table .now) (a .state .now) (a .value .now))
+    (a .work .now) (a .answer .now) 1 (ent .enter .ensures) (test .if1 .left) in
+    line-live g (pos .position .ensures)
+
 add-number : tie.Need-add-number
 add-number c =
-    let pos = c .before in
+    let pos = c .before .before .before .before .before .before .before in
     let test = pos .before .before in
     let ent = test .before in
     let a = ent .before .before .before .before .before .before .before .before .before .before .before .before .before .before .before .before .before .before .before .before .args in
@@ -33,18 +43,19 @@ add-number c =
 
 reply-line-requires : tie.Need-reply-line-requires
 reply-line-requires c κs =
-    let pos = c .before .before .before .before .before .before .before .before .before .before in
+    let made = c .before .before .before .before .before .before .before .before .before .before .before .before in
+    let pos = made .before .before .before .before in
     let test = pos .before .before in
     let ent = test .before in
     let a = ent .before .before .before .before .before .before .before .before .before .before .before .before .before .before .before .before .before .before .before .before .args in
     let g = given (a .numbers .now) (memoryOf (a .names .now) (a .arities .now) (a .listings .now) (a .table .now) (a .state .now) (a .value .now))
     (a .work .now) (a .answer .now) 1 (ent .enter .ensures) (test .if1 .left) in
-    (line-kept g (pos .position .ensures), g .work-room)
+    (line-kept g (pos .position .ensures) (made .remake-index .ensures), g .work-room)
 
 store-requires : tie.Need-store-requires
 store-requires c κs =
     let call = c .before .before .before .before .before .before .before .before .before .before .before .before .before .before .before .before .before .before in
-    let test = call .before .before .before .before .before .before .before .before .before .before .before .before .before in
+    let test = call .before .before .before .before .before .before .before .before .before .before .before .before .before .before .before .before .before .before .before in
     let ent = test .before in
     let a = ent .before .before .before .before .before .before .before .before .before .before .before .before .before .before .before .before .before .before .before .before .args in
     given (a .numbers .now) (memoryOf (a .names .now) (a .arities .now) (a .listings .now) (a .table .now) (a .state .now) (a .value .now))
@@ -55,14 +66,15 @@ returns-2 c =
     let stored = c .before .before .before in
     let call = stored .before .before .before .before .before .before .before .before .before .before .before .before .before .before .before .before .before .before .before in
     let met = call .before .before .before .before .before .before .before .before .before in
-    let pos = met .before .before in
+    let made = met .before .before .before .before in
+    let pos = made .before .before .before .before in
     let test = pos .before .before in
     let ent = test .before in
     let a = ent .before .before .before .before .before .before .before .before .before .before .before .before .before .before .before .before .before .before .before .before .args in
     let g = given (a .numbers .now) (memoryOf (a .names .now) (a .arities .now) (a .listings .now) (a .table .now) (a .state .now) (a .value .now))
     (a .work .now) (a .answer .now) 1 (ent .enter .ensures) (test .if1 .left) in
-    line-done (a .line .now) g (ent .enter .ensures) (test .if1 .left) _ (pos .position .ensures) (met .met-behind .ensures) (call .reply-line .ensures)
-    (stored .store .ensures) (c .end-of .ensures)
+    line-done (a .line .now) g (ent .enter .ensures) (test .if1 .left) _ (pos .position .ensures) (met .met-behind .ensures) (made .remake-index .ensures)
+    (call .reply-line .ensures) (stored .store .ensures) (c .end-of .ensures)
 
 same-length-10 : tie.Need-same-length-10
 same-length-10 c = c .before .before .before .store .kept .0
@@ -89,8 +101,8 @@ same-length-14 c =
 
 same-length-15 : tie.Need-same-length-15
 same-length-15 c =
-    let back = c .before .before .before .before .before .before .before .before .before .before .before .before in
-    back .before .before .before .before .before .before .before .before .before .before .reply-line .kept .1 .1 .1 .1 .1 .1 .1 .0
+    let call = c .before .before .before .before .before .before .before .before .before .before .before .before .before .before .before .before .before .before .before .before .before .before in
+    call .reply-line .kept .1 .1 .1 .1 .1 .1 .1 .0 ∙ call .before .before .before .before .before .before .before .before .before .before .before .before .before .remake-index .kept .1 .0
 
 same-length-16 : tie.Need-same-length-16
 same-length-16 c =
@@ -111,5 +123,5 @@ pub yindolve-line-spec : {M : Type 1} → statement M
 yindolve-line-spec =
     tie.close
     (tie.spec (λ c κs. search needs) (λ c. refl) (λ c. refl) (λ c. refl) (λ c. refl) (λ c. refl) (λ c. refl) (λ c. refl) (λ c. refl) (λ c. refl)
-    returns position-requires add-number (λ c κs. search needs) reply-line-requires store-requires (λ c κs. search needs) same-length-10
+    returns position-requires remake-index-requires add-number (λ c κs. search needs) reply-line-requires store-requires (λ c κs. search needs) same-length-10
     same-length-11 same-length-12 same-length-13 same-length-14 same-length-15 same-length-16 same-length-17 same-length-18 returns-2)

@@ -1,7 +1,7 @@
 use Prim.Native.Nat.{_-_}
 use borrow.Author.Needs.{needs}
 use Rattle.facts.specs.Words.{factsBase}
-use Rattle.modelling.specs.WordLaws.{Copying, copy-start, copy-room, copy-on, copy-end}
+use Rattle.model_entry.specs.WordLaws.{Copying, copy-start, copy-room, copy-on, copy-end}
 use Rattle.desk_lines.proofs.copy_facts.Statement.{statement}
 use Rattle.desk_lines.proofs.copy_facts.Tie as tie
 

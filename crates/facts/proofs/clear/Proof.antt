@@ -1,12 +1,12 @@
 use borrow.Author.Needs.{needs}
 use Prim.Native.Nat.{_-_, _≤_}
-use Rattle.facts.specs.Words.{factsBase, Cleared}
+use Rattle.facts.specs.Words.{factsBase, Unplaced}
 use Rattle.facts.proofs.StateLaws.{clear-begin, clear-next, room-kept, clear-end}
 use Rattle.facts.proofs.clear.Statement.{statement}
 use Rattle.facts.proofs.clear.Tie as tie
 
 abbrev Inv-loop : tie.InvT-loop
-Inv-loop state₀ i₀ state i = Cleared state₀ state i × (i ≤ factsBase)
+Inv-loop state₀ i₀ state i = Unplaced state₀ state i × (i ≤ factsBase)
 
 abbrev μ-loop : tie.MeasureT-loop
 μ-loop state₀ i₀ state i = factsBase - i

@@ -14,4 +14,5 @@ returns-3 c = search objects-done
 
 pub objects-spec : {M : Type 1} → statement M
 objects-spec =
-    tie.close (tie.spec returns returns-2 (λ c κs. search needs) (λ c. search needs) returns-3)
+    tie.close
+    (tie.spec returns returns-2 (λ c κs. search needs) (λ c κs. search needs) (λ c. search needs) returns-3)

@@ -21,5 +21,6 @@ returns-4 c = search place-done
 pub place-spec : {M : Type 1} → statement M
 place-spec =
     tie.close
-    (tie.spec (λ c κs. search needs) returns (λ c. search needs) (λ c. search needs) (λ c. search needs) returns-2 returns-3 (λ c. search needs) (λ c. search needs)
+    (tie.spec (λ c κs. search needs) returns (λ c. search needs) (λ c. search needs) (λ c. search needs) returns-2 returns-3 (λ c. search needs)
+    (λ c. search needs)
     (λ c. search needs) (λ c. search needs) slice-write-state-2 (λ c. search needs) returns-4)

@@ -1,33 +1,17 @@
-use Prim.Native.Nat.{_-_}
-use Rattle.state.specs.Lent.{factWords}
-use Rattle.facts.proofs.FactLaws.{Writing, writing-start, put-room, put-on, put-done}
+use Rattle.facts.proofs.FactLaws.{put-room, put-done}
 use borrow.Author.Needs.{needs}
 use Rattle.facts.proofs.put.Statement.{statement}
 use Rattle.facts.proofs.put.Tie as tie
 
-abbrev Inv-loop : tie.InvT-loop
-Inv-loop state₀ row base j₀ state j = Writing state₀ row base j state
+slice-write-state-2 : tie.Need-slice-write-state-2
+slice-write-state-2 c = search put-room
 
-abbrev μ-loop : tie.MeasureT-loop
-μ-loop state₀ row base j₀ state j = factWords - j
-
-loop-holds : tie.Need-loop-holds Inv-loop μ-loop
-loop-holds c = search writing-start
-
-slice-write-state : tie.Need-slice-write-state Inv-loop μ-loop
-slice-write-state c = search put-room
-
-loop-again : tie.Need-loop-again Inv-loop μ-loop
-loop-again c = search put-on
-
-same-length : tie.Need-same-length Inv-loop μ-loop
-same-length c = c .before .loop .inv .size
-
-returns : tie.Need-returns Inv-loop μ-loop
+returns : tie.Need-returns
 returns c = search put-done
 
 pub put-spec : {M : Type 1} → statement M
 put-spec =
     tie.close
-    (tie.spec Inv-loop μ-loop (λ c. search needs) (λ c. search needs) loop-holds (λ c. search needs) (λ c. search needs) (λ c. search needs)
-    (λ c. search needs) slice-write-state (λ c. search needs) (λ c. search needs) loop-again same-length returns)
+    (tie.spec (λ c κs. search needs) (λ c. search needs) (λ c. search needs) (λ c. search needs) (λ c. search needs) (λ c. search needs)
+    (λ c. search needs) (λ c. search needs) (λ c. search needs) (λ c. search needs) (λ c. search needs) slice-write-state-2 (λ c. search needs)
+    returns)

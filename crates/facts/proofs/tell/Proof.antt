@@ -14,7 +14,7 @@ returns-2 : tie.Need-returns-2
 returns-2 c = search tell-arity
 
 note-requires : tie.Need-note-requires
-note-requires c κs = (search needs, simp length-set (search needs))
+note-requires c κs = (search needs, (search needs, (search needs, simp length-set (search needs))))
 
 returns-3 : tie.Need-returns-3
 returns-3 c = search tell-done

@@ -10,7 +10,7 @@ use Rattle.lines.proofs.perform.Tie as tie
 
 objects-requires : tie.Need-objects-requires
 objects-requires c κs =
-    let told = c .before in
+    let told = c .before .before in
     let start = told .before .before .before .before .before .before .before .before .before .before .pre in
     for-objects (ready-as (told .enum-told .given .1) (start .0))
 
@@ -28,9 +28,9 @@ tell-requires c κs =
 
 value-requires : tie.Need-value-requires
 value-requires c κs =
-    let told = c .before .before .before in
+    let told = c .before .before .before .before in
     let start = told .before .before .before .before .before .before .before .before .before .before .pre in
-    value-task (ready-as (told .enum-told4 .given .1) (start .0))
+    value-task (ready-as (told .enum-told4 .given .1) (start .0)) (start .1)
 
 perform-model-requires : tie.Need-perform-model-requires
 perform-model-requires c κs =
@@ -49,7 +49,7 @@ perform-run-requires c κs =
 returns : tie.Need-returns
 returns c =
     let call = c .before .before in
-    let told = call .before .before in
+    let told = call .before .before .before in
     let start = told .before .before .before .before .before .before .before .before .before .before .pre in
     objects-answers _ (start .0) (told .enum-told .given .1) (call .objects .ensures)
 
@@ -69,9 +69,10 @@ returns-3 c =
 
 returns-4 : tie.Need-returns-4
 returns-4 c =
-    let told = c .before .before .before .before in
+    let call = c .before .before in
+    let told = call .before .before .before .before .before in
     let start = told .before .before .before .before .before .before .before .before .before .before .pre in
-    value-answers _ (start .0) (told .enum-told4 .given .1) (c .value .ensures)
+    value-answers _ (start .0) (told .enum-told4 .given .1) (call .value .ensures)
 
 returns-5 : tie.Need-returns-5
 returns-5 c =
@@ -91,9 +92,9 @@ returns-7 c = c .before .before .before .before .before .before .perform-run .en
 pub perform-spec : {M : Type 1} → statement M
 perform-spec =
     tie.close
-    (tie.spec
-    (λ c. search needs) objects-requires (λ c. search needs) is-requires (λ c. search needs) tell-requires (λ c. search needs) value-requires perform-model-requires
-    (λ c. search needs) (λ c κs. search needs) perform-run-requires (λ c. search needs) returns (λ c. search needs) (λ c. search needs) returns-2 (λ c. search needs)
-    (λ c. search needs) (λ c. search needs) returns-3 (λ c. search needs) (λ c. search needs) (λ c. search needs) returns-4 (λ c. search needs) (λ c. search needs)
-    (λ c. search needs) (λ c. search needs) (λ c. search needs) returns-5 returns-6 (λ c. search needs) (λ c. search needs) (λ c. search needs) (λ c. search needs)
-    (λ c. search needs) (λ c. search needs) (λ c. search needs) returns-7)
+    (tie.spec (λ c. search needs) objects-requires (λ c. search needs) is-requires (λ c. search needs) tell-requires (λ c. search needs) value-requires
+    perform-model-requires (λ c. search needs) (λ c κs. search needs) perform-run-requires (λ c. search needs) (λ c. search needs) returns (λ c. search needs)
+    (λ c. search needs) returns-2 (λ c. search needs) (λ c. search needs) (λ c. search needs) returns-3 (λ c. search needs) (λ c. search needs)
+    (λ c. search needs) (λ c. search needs) returns-4 (λ c. search needs) (λ c. search needs) (λ c. search needs) (λ c. search needs) (λ c. search needs)
+    returns-5 returns-6 (λ c. search needs) (λ c. search needs) (λ c. search needs) (λ c. search needs) (λ c. search needs) (λ c. search needs)
+    (λ c. search needs) returns-7)

@@ -9,6 +9,9 @@ use Rattle.state_lines.proofs.tell.Tie as tie
 read-tuple-requires : tie.Need-read-tuple-requires
 read-tuple-requires c κs = (search (second-in True), (search needs, empty-row))
 
+tell-requires : tie.Need-tell-requires
+tell-requires c κs = (search needs, (search needs, (search needs, (search needs, search needs))))
+
 returns : tie.Need-returns
 returns c =
     let told = c .before .before .before .before .before .before .before .tell .ensures in
@@ -23,5 +26,5 @@ returns-2 c = search true-refused
 pub tell-spec : {M : Type 1} → statement M
 tell-spec =
     tie.close
-    (tie.spec (λ c κs. search needs) (λ c κs. search needs) (λ c κs. search needs) (λ c. search needs) read-tuple-requires (λ c. search needs) (λ c κs. search needs) (λ c. search needs)
+    (tie.spec (λ c κs. search needs) (λ c κs. search needs) (λ c κs. search needs) (λ c. search needs) read-tuple-requires (λ c. search needs) tell-requires (λ c. search needs)
     (λ c κs. search needs) (λ c. search needs) (λ c. search needs) returns (λ c. search needs) returns-2)
