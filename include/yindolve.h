@@ -42,9 +42,9 @@ extern "C" {
 
 /* The version of this header and of its library. */
 #define YINDOLVE_VERSION_MAJOR 0
-#define YINDOLVE_VERSION_MINOR 5
+#define YINDOLVE_VERSION_MINOR 6
 #define YINDOLVE_VERSION_PATCH 0
-#define YINDOLVE_VERSION "0.5.0"
+#define YINDOLVE_VERSION "0.6.0"
 
 /* The first word of a leaf's row, 2^64 - 1, and the highest value of a leaf. */
 #define YINDOLVE_LEAF UINT64_C(18446744073709551615)
@@ -79,7 +79,7 @@ extern "C" {
 #define YINDOLVE_NAME_WORDS 248          /* names, exactly: two words for each constant, predicate, action, parameter of the last action, variant of any action */
 #define YINDOLVE_LISTING_WORDS 6144      /* the model's listings, exactly */
 #define YINDOLVE_TABLE_WORDS 4240        /* where they stand, exactly */
-#define YINDOLVE_STATE_WORDS 7200        /* the state, exactly */
+#define YINDOLVE_STATE_WORDS 9248        /* the state with the index of its facts, exactly */
 #define YINDOLVE_VALUE_WORDS 3072        /* the value's listing, exactly */
 #define YINDOLVE_SESSION_WORK_WORDS 6144 /* a session's working space, at least */
 #define YINDOLVE_ANSWER_BYTES 92160      /* the answer of a line: 90 bytes for each of 1,024 rows; (count n) has at most 1,023 lines, shorter ones */
@@ -291,6 +291,7 @@ uint64_t yindolve_open(uint64_t *numbers, size_t numbers_count, uint64_t *aritie
  * happened to its bytes: the call answers by the session that they are, or LISTING. (Words that pass but were not left by lines may hold any good value diagram; then a
  * value is that diagram's, and not the Bellman value, (text) prints the bytes that its names hold, and (did ..) goes on from the count and total that its numbers hold.)
  * Words behind the numbers and bytes behind the answers stay. Within a table the words behind those in use are the session's working space.
+ * So is the index of the facts behind them in the state: a call makes it from the facts, whatever its words are, and its lines keep it.
  * Refused, in this order: LISTING where the memory is no session's, a table of another size among it, or its count of lines and the block's bytes together pass
  * 2^64 - 1; BUFFER where the working space or the buffer is smaller than above. Nothing is written then.
  */

@@ -25,6 +25,9 @@ static const char run[] = "(did wait only)\n(objects 3)\n(is hub 0)\n(is far 2)\
 enum { PART = 0, EARLIER = 9, COUNT = 19, TOTAL = 20, ROWS = 21 };
 static const uint64_t of_logs[] = {EARLIER, COUNT, TOTAL};
 
+/* Words of the index of the facts, the last of the state: buckets, and a link for each fact. */
+enum { INDEX_WORDS = 1024 + 1024 };
+
 static uint64_t first_seed, seed;
 static yindolve_session whole, part, damaged, copy, other;
 static uint8_t text[sizeof model + sizeof run], answers[1 << 20], joined[1 << 20], first[1 << 20], second[1 << 20];
@@ -141,6 +144,18 @@ static void run_without_action(void) {
     }
 }
 
+/* The index of the facts, behind them in the state, is of no account: with other words in it the lines are answered alike, and leave a session that goes on alike. */
+static void words_of_the_index(const yindolve_session *s) {
+    uint64_t bytes = 0, again = 0, read = 0;
+    damaged = other = *s;
+    for (size_t i = 0; i < INDEX_WORDS; ++i) other.state[YINDOLVE_STATE_WORDS - INDEX_WORDS + i] = next(2) ? next(UINT64_MAX) : next(2048);
+    for (int times = 0; times < 2; ++times) {
+        EXPECT(yindolve_session_lines(&damaged, (const uint8_t *)run, sizeof run - 1, first, sizeof first, &bytes, &read) == 0);
+        EXPECT(yindolve_session_lines(&other, (const uint8_t *)run, sizeof run - 1, second, sizeof second, &again, &read) == 0);
+        EXPECT(bytes == again && memcmp(first, second, bytes) == 0 && memcmp(damaged.numbers, other.numbers, sizeof other.numbers) == 0);
+    }
+}
+
 int main(int count, char **arguments) {
     uint64_t bytes = 0, lines = 0, read = 0, refused = 0, accepted = 0;
     time_t end;
@@ -156,6 +171,7 @@ int main(int count, char **arguments) {
     do {
         EXPECT(yindolve_session_open(&whole) == 0 && in_blocks(&whole, text, size, 200) == bytes && memcmp(joined, answers, bytes) == 0);
         numbers_of_logs(&whole);
+        words_of_the_index(&whole);
         EXPECT(yindolve_session_open(&part) == 0 && in_blocks(&part, text, sizeof model - 1 + next(2) * (sizeof run - 1), 60) <= bytes);
         for (int i = 0; i < 100; ++i) {
             damaged = next(2) ? whole : part;

@@ -15,8 +15,8 @@ pub const NAME_WORDS: usize = 248;
 pub const LISTING_WORDS: usize = 6_144;
 /// Words that say where these stand.
 pub const TABLE_WORDS: usize = 4_240;
-/// Words of the state in hand.
-pub const STATE_WORDS: usize = 7_200;
+/// Words of the state in hand, with the index of its facts.
+pub const STATE_WORDS: usize = 9_248;
 /// Words of the value's listing.
 pub const VALUE_WORDS: usize = RESULT_WORDS;
 /// Words of a session's working space.
