@@ -1,4 +1,5 @@
--- What the value call's parts keep and answer: what it asks of the index of facts, its search, its search with minimum variables, its second way of working, and values with objects for the parameters.
+-- What the value call's parts keep and answer: what it asks of the index of facts, its search, its search with minimum variables, its second way of
+-- working, and values with objects for the parameters.
 pub mod Asking
 pub mod Search
 pub mod Rising
