@@ -225,3 +225,14 @@ pub fn cliques(n: u64) -> Vec<u64> {
     words.extend([first[0], on_true, on_false]);
     words
 }
+
+/// What is lent to a call: a result buffer, a working space, room for answers.
+pub struct Room {
+    pub result: Vec<u64>,
+    pub work: Vec<u64>,
+    pub answers: Vec<u8>,
+}
+
+pub fn room() -> Room {
+    Room { result: vec![0; 3072], work: vec![0; 6144], answers: vec![0; 1 << 20] }
+}

@@ -7,7 +7,7 @@ mod linked;
 mod tables;
 
 use engine::Operation;
-use inputs::{Random, ARITIES};
+use inputs::{room, Random, Room, ARITIES};
 use std::hint::black_box;
 
 type Combination = fn(&[u64], &[u64], &[u64], &mut [u64], &mut [u64], &mut u64, &mut u64) -> u64;
@@ -40,17 +40,6 @@ macro_rules! engine {
 static LIBRARY: Engine = engine!(linked);
 static RUST: Engine = engine!(plain::c_library);
 static BOTH: [&Engine; 2] = [&LIBRARY, &RUST];
-
-/// What is lent to calls: a result buffer, a working space, room for answers.
-struct Room {
-    result: Vec<u64>,
-    work: Vec<u64>,
-    answers: Vec<u8>,
-}
-
-fn room() -> Room {
-    Room { result: vec![0; 3072], work: vec![0; 6144], answers: vec![0; 1 << 20] }
-}
 
 const OPERATIONS: [Operation; 3] = [Operation::Sum, Operation::Product, Operation::Max];
 

@@ -8,7 +8,7 @@ mod inputs;
 mod old;
 
 use engine::LEAF;
-use inputs::{Random, ARITIES};
+use inputs::{room, Random, Room, ARITIES};
 use std::ffi::{c_char, CString};
 use std::hint::black_box;
 use std::time::Instant;
@@ -62,17 +62,6 @@ fn job_for(side: &Side, job: &Job) -> Job {
         Job::Combine(k, x, y) if side.old => Job::Combine(*k, old::old_listing(x), old::old_listing(y)),
         other => other.clone(),
     }
-}
-
-/// What is lent to a call: a result buffer, a working space, room for answers.
-struct Room {
-    result: Vec<u64>,
-    work: Vec<u64>,
-    answers: Vec<u8>,
-}
-
-fn room() -> Room {
-    Room { result: vec![0; 3072], work: vec![0; 6144], answers: vec![0; 1 << 20] }
 }
 
 /// The refusal, and the rows or bytes of the answer.
