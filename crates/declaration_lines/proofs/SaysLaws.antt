@@ -36,15 +36,18 @@ use Rattle.facts.specs.Words.{liveOf}
 use Rattle.facts.specs.WordLaws.{index-quiet}
 use Rattle.model.specs.declared.Head.{Head}
 use Rattle.model.specs.Layout.{modelOf}
-use Rattle.model_entry.specs.Building.{Building, withActions, newAction, ActionRoom, ActionAdded}
+use Rattle.model_entry.specs.Building.{Building, withActions, newAction}
+use Rattle.model_entry.specs.Adding.{ActionRoom, ActionAdded}
+use Rattle.model_entry.specs.StartLaws.{starts-same}
 use Rattle.planner.specs.Run.{heldIn}
 use Rattle.memory.specs.declared.Numbers.{Numbers}
-use Rattle.memory.specs.Memory.{Memory, memoryOf, sessionOf, Stored, Ready}
+use Rattle.memory.specs.Memory.{Memory, memoryOf, sessionOf, Stored, Ready, Carried}
 use Rattle.memory.specs.WordLaws.{first-is, second-is, rest-is}
+use Rattle.memory.specs.CarriedLaws.{carried-on}
 use Rattle.memory.specs.QuietLaws.{quiet-refused, quiet-done, no-run}
 use Rattle.declaration_lines.specs.Lines.{withTables, withWeights, ForAction, ConstantSays, PredicateSays, TotalSays, DiscountSays, ActionSays}
 
--- ===== Words that have their room still have it =====
+-- ===== Words that have their room still have it, and what is carried over =====
 
 -- other names, and a model with another table
 stored-tables : {n : Numbers} {names ar l t st v : List ℕ} (names′ ar′ t′ : List ℕ) (c : Counts) (h : Head)
@@ -86,6 +89,12 @@ stored-weights total discount x y z g m = record {
   holding = λ e. absurd (m e);
 }
 
+carried-weights : {n : Numbers} {w : Memory} (total discount : Bool) (x y z : ℕ) → Carried n w (withWeights n total discount x y z) w
+carried-weights {n} {w} total discount x y z = record {
+  starts = starts-same (w .table) (n .head) (withWeights n total discount x y z .head) refl refl refl;
+  idle = λ e. (e, refl);
+}
+
 -- ===== (constant n) =====
 
 module _ (s : List ℕ) (n : Numbers) {names names′ : List ℕ} {i : ℕ} {x : Next} {k : Key} {d : Declared}
@@ -108,7 +117,7 @@ module _ (s : List ℕ) (n : Numbers) {names names′ : List ℕ} {i : ℕ} {x :
         says = λ ar l t st v r.
             quiet-done (withNames (sessionOf n (memoryOf names ar l t st v))) constantOf refl (h .0) refl
             (stored-tables names′ ar t c (n .head) (r .stored) (no-run refl r) (record { names = h .1; arities = r .stored .vocabulary .arities })
-            (r .stored .building) refl refl) (r .indexed);
+            (r .stored .building) refl refl) (r .indexed) (carried-on refl refl refl);
       })
 
   pub constant-refused : {number : ℕ} {why : Refusal} → d ≡ Refused why
@@ -155,7 +164,8 @@ module _ (s : List ℕ) (n : Numbers) {names ar names′ ar′ : List ℕ} {i : 
       (record {
         says = λ l t st v r.
             quiet-done (withVocabulary (sessionOf n (memoryOf names ar l t st v))) predicateOf refl (h .0) refl
-            (stored-tables names′ ar′ t c (n .head) (r .stored) (no-run refl r) (h .1) (r .stored .building) refl refl) (index-quiet (no-objects r) (r .indexed));
+            (stored-tables names′ ar′ t c (n .head) (r .stored) (no-run refl r) (h .1) (r .stored .building) refl refl) (index-quiet (no-objects r) (r .indexed))
+            (carried-on refl refl refl);
       })
 
   pub predicate-refused : {number : ℕ} {why : Refusal} → d ≡ Refused why
@@ -185,7 +195,8 @@ module _ (s : List ℕ) {i : ℕ} {x : Next} {w : ℕ} {b : Bool}
       (record {
         says = λ names ar l tb st v r.
             quiet-done (withTotal (sessionOf n (memoryOf names ar l tb st v))) (totalLine (numberIn (wordAt (wordsOf Total s) 0))) refl (total-of true e) refl
-            (stored-weights true (n .discount) w (n .head .numerator) (n .head .denominator) (r .stored) (no-run refl r)) (r .indexed);
+            (stored-weights true (n .discount) w (n .head .numerator) (n .head .denominator) (r .stored) (no-run refl r)) (r .indexed)
+            (carried-weights true (n .discount) w (n .head .numerator) (n .head .denominator));
       })
 
   pub total-refused : {number : ℕ} {n : Numbers} → b ≡ false → TotalSays s number n (record { numbers = n; answer = RefusedAs Range number })
@@ -216,7 +227,7 @@ module _ (s : List ℕ) {i : ℕ} {x y : Next} {g d : ℕ} {b : Bool} (p : i ≡
       (record {
         says = λ names ar l tb st v r.
             quiet-done (withDiscount (sessionOf n (memoryOf names ar l tb st v))) discountOf refl (discount-of true e) refl
-            (stored-weights (n .total) true (n .head .total) g d (r .stored) (no-run refl r)) (r .indexed);
+            (stored-weights (n .total) true (n .head .total) g d (r .stored) (no-run refl r)) (r .indexed) (carried-weights (n .total) true (n .head .total) g d);
       })
 
   pub discount-refused : {number : ℕ} {n : Numbers} → b ≡ false → DiscountSays s number n (record { numbers = n; answer = RefusedAs Range number })
@@ -305,5 +316,6 @@ module _ (s : List ℕ) (n : Numbers) {names names′ : List ℕ} {i : ℕ} {x :
           says = λ ar l st v r.
               quiet-done (withAction (sessionOf n (memoryOf names ar l table st v))) actionOf refl (y .0) (action-session ar l st v)
               (stored-tables names′ ar table′ c h (r .stored) (no-run refl r) (record { names = y .1; arities = r .stored .vocabulary .arities })
-              (a .building l (r .stored .building)) (ap (λ (z : Head). z .words) (a .answer)) (ap (λ (z : Head). z .«reward_words») (a .answer))) (r .indexed);
+              (a .building l (r .stored .building)) (ap (λ (z : Head). z .words) (a .answer)) (ap (λ (z : Head). z .«reward_words») (a .answer))) (r .indexed)
+              (record { starts = a .starts; idle = λ o. (o, refl) });
         })

@@ -37,6 +37,7 @@ use Rattle.best_move.specs.declared.Chosen.the-variants.{Move as TheMove, Refus
 use Rattle.best_move.specs.Chosen.{chosenAs, BestTask}
 use Rattle.memory.specs.declared.Numbers.{Numbers}
 use Rattle.memory.specs.Memory.{Memory, sessionOf, Ready, Answers}
+use Rattle.memory.specs.CarriedLaws.{carried-same}
 use Rattle.desk_lines.specs.Lines.{MoveTask, BestAnswered}
 
 -- ===== The action is there =====
@@ -136,11 +137,23 @@ module _ {s : List ℕ} (number : ℕ) {n : Numbers} {w : Memory} (r : Ready K.B
   moved-answers : {i count b c d e : ℕ} {k : Key} → q ≡ TheMove i count b c d e → k ≡ getD (keysAt (w .names) actionsAt (n .counts .actions)) i noKey
       → Answers K.Best s number n w (record { numbers = n; answer = A.Best k count b c d e }) w
   unfolding sessionOf done namesOf
-  moved-answers e p = record { answer = moved-says (sessionOf n w) number O (sym a ∙ e) p; session = same-session (sessionOf n w) number O; stored = r .stored; indexed = r .indexed }
+  moved-answers e p = record {
+    answer = moved-says (sessionOf n w) number O (sym a ∙ e) p;
+    session = same-session (sessionOf n w) number O;
+    stored = r .stored;
+    indexed = r .indexed;
+    carried = carried-same n w;
+  }
 
   refused-answers : {x : Refusal} → q ≡ Refused x → Answers K.Best s number n w (record { numbers = n; answer = A.Refused x number }) w
   unfolding done
-  refused-answers e = record { answer = refused-says (sessionOf n w) number O (sym a ∙ e); session = same-session (sessionOf n w) number O; stored = r .stored; indexed = r .indexed }
+  refused-answers e = record {
+    answer = refused-says (sessionOf n w) number O (sym a ∙ e);
+    session = same-session (sessionOf n w) number O;
+    stored = r .stored;
+    indexed = r .indexed;
+    carried = carried-same n w;
+  }
 
 module _ (n : Numbers) (names ar listings table state value : List ℕ) {ps : List ℕ} (f : ps ≡ part state factsBase (n .live .facts * factWords)) {q : Chosen}
     (a : q

@@ -36,6 +36,7 @@ use Rattle.count_states.specs.declared.Counted.the-variants.{Lines, Refused}
 use Rattle.count_states.specs.Counted.{countedAs, Counts}
 use Rattle.memory.specs.declared.Numbers.{Numbers}
 use Rattle.memory.specs.Memory.{Memory, memoryOf, sessionOf, Ready, Answers, Shown}
+use Rattle.memory.specs.CarriedLaws.{carried-same}
 use Rattle.memory.specs.WordLaws.{first-is}
 use Rattle.memory.specs.RunLaws.{run-holding}
 use Rattle.desk_lines.specs.Lines.{CountTask, CountAnswered}
@@ -139,6 +140,7 @@ module _ (s : List ℕ) (number : ℕ) (n : Numbers) (ar state value : List ℕ)
           session = same-session σ number objects (read σ objects) ∙ sym (ap (λ (y : Reply). y .session) done-is);
           stored = r .stored;
           indexed = r .indexed;
+          carried = carried-same n (memoryOf names ar listings tables state value);
         }
 
     refused-answers : {why : Refusal} → q ≡ Refused why
@@ -151,6 +153,7 @@ module _ (s : List ℕ) (number : ℕ) (n : Numbers) (ar state value : List ℕ)
           session = same-session σ number objects (read σ objects) ∙ sym (ap (λ (y : Reply). y .session) done-is);
           stored = r .stored;
           indexed = r .indexed;
+          carried = carried-same n (memoryOf names ar listings tables state value);
         }
 
     shows : Shown (done (sessionOf n (memoryOf names ar listings tables state value)) number K.Count (wordsOf K.Count s)) table

@@ -42,6 +42,7 @@ use Rattle.replay_step.specs.Stepped.{lentDid, lentStep, StepTask, Steps}
 use Rattle.memory.specs.declared.Numbers.{Numbers}
 use Rattle.memory.specs.declared.Said.{Said}
 use Rattle.memory.specs.Memory.{memoryOf, sessionOf, Answers, withState}
+use Rattle.memory.specs.CarriedLaws.{carried-same, carried-on}
 use Rattle.memory.specs.StoredLaws.{stored-state}
 use Rattle.memory.specs.WordLaws.{next-drops, first-is, second-is, rest-is}
 use Rattle.desk_lines.specs.declared.Found.{Found}
@@ -300,6 +301,7 @@ module _ (s : List ℕ) (number : ℕ) (n : Numbers) (names ar ls tb : List ℕ)
               session = session-moved value l ∙ sym (ap (λ (b : Reply). b .session) a);
               stored = stored-state st′ l (r .stored) (h .1);
               indexed = h .2;
+              carried = carried-on refl refl refl;
             };
       })
 
@@ -310,5 +312,11 @@ module _ (s : List ℕ) (number : ℕ) (n : Numbers) (names ar ls tb : List ℕ)
         let a = done-as value (h .0) in
         subst (λ (t : List ℕ). Answers K.Did s number n (memoryOf names ar ls tb st value) (record { numbers = n; answer = A.Refused why number }) (memoryOf names ar ls tb t value))
         (sym (h .1))
-        (record { answer = sym (ap (λ (b : Reply). b .answer) a); session = sym (ap (λ (b : Reply). b .session) a); stored = r .stored; indexed = r .indexed });
+        (record {
+          answer = sym (ap (λ (b : Reply). b .answer) a);
+          session = sym (ap (λ (b : Reply). b .session) a);
+          stored = r .stored;
+          indexed = r .indexed;
+          carried = carried-same n (memoryOf names ar ls tb st value);
+        });
   }

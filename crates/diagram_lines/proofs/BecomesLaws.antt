@@ -17,12 +17,12 @@ use Rattle.regression.specs.RegressCall.{leafAbove}
 use Rattle.text.specs.declared.Kind.the-variants.{Becomes}
 use Rattle.events.specs.declared.Event.{Event}
 use Rattle.reading.specs.declared.Binding.the-variants.{Only}
-use Rattle.reading.specs.declared.Opened.{Opened}
-use Rattle.reading.specs.declared.Opened.the-variants as P
 use Rattle.reading.specs.Reading.{Written, arguments, reading}
 use Rattle.reading.specs.Head.{Head, headNumber, headArguments}
-use Rattle.reading.specs.Callers.{judgedPredicate, PredicateWithin}
-use Rattle.reading.specs.OutcomeLaws.{apart}
+use Rattle.reading.specs.OutcomeLaws.{apart, ok-one}
+use Rattle.reader.specs.declared.Opened.{Opened}
+use Rattle.reader.specs.declared.Opened.the-variants as P
+use Rattle.reader.specs.Callers.{judgedPredicate, PredicateWithin}
 use Rattle.drawing.specs.declared.Built.{Built}
 use Rattle.drawing.specs.declared.Built.the-variants.{Done, Refused}
 use Rattle.build.specs.Machine.{built}
@@ -36,7 +36,8 @@ use Rattle.steps.specs.GivenLaws.{then-then, then-same}
 use Rattle.planner.specs.Run.{heldIn}
 use Rattle.model.specs.declared.Head.{Head as ModelHead}
 use Rattle.model.specs.Layout.{modelOf}
-use Rattle.model_entry.specs.Building.{withActions, RowsRoom, TruthRoom, TruthAdded}
+use Rattle.model_entry.specs.Building.{withActions}
+use Rattle.model_entry.specs.Adding.{RowsRoom, TruthRoom, TruthAdded}
 use Rattle.memory.specs.declared.Numbers.{Numbers}
 use Rattle.memory.specs.Memory.{Memory, memoryOf, sessionOf, Ready}
 use Rattle.drawing.specs.Drawing.{drawn, Draws}
@@ -107,6 +108,19 @@ truth-few n ar p r es {d} e = go (headArguments (getD ar p 0) es) e
     go (ok h) f = roomed-ok false r (lowered (drawn (namesFor n ar Only (n .parameters)) (h .rest) (h .variables))) d f .room
     go (refused w) f = absurd (apart f)
 
+-- the predicate of an accepted head has no truth diagram yet
+number-free : (n : Names) (truths : Truths) (es : List Event) {p : ℕ} → truthNumber n truths es ≡ ok p → isSome (truths p) ≡ false
+unfolding truthNumber
+number-free n truths es {p} e = go (headNumber (n .predicates) es) e
+  where
+    here : (q : ℕ) (b : Bool) → isSome (truths q) ≡ b → cond b (refused Name) (ok q) ≡ ok p → isSome (truths p) ≡ false
+    here q true f g = absurd (apart g)
+    here q false f g = ap (λ (r : ℕ). isSome (truths r)) (sym (ok-one g)) ∙ f
+
+    go : (o : Outcome ℕ) → andThen o (λ q. cond (isSome (truths q)) (refused Name) (ok q)) ≡ ok p → isSome (truths p) ≡ false
+    go (ok q) f = here q (isSome (truths q)) refl f
+    go (refused w) f = absurd (apart f)
+
 -- ===== Answered =====
 
 becomes-done : (s : List ℕ) (number : ℕ) (n : Numbers) (w : Memory)
@@ -168,6 +182,9 @@ module _ (s : List ℕ) (n : Numbers) (names ar listings table : List ℕ) where
     module _ {p : ℕ} (e : t ≡ P.Predicate p) where
       number-is : N ≡ ok p
       number-is = sym (x .answer ar listings) ∙ ap judgedPredicate e
+
+      truth-free : isSome (truthsNow (modelOf ar listings table (n .head) .actions) p) ≡ false
+      truth-free = number-free (namesOf names (n .counts)) (truthsNow (modelOf ar listings table (n .head) .actions)) E number-is
 
       pub becomes-declared : GoodVocabulary names ar (n .counts) → p < predicateCount
       becomes-declared g =
@@ -245,5 +262,6 @@ module _ (s : List ℕ) (n : Numbers) (names ar listings table : List ℕ) where
             pub becomes-accepted : (number : ℕ) → BecomesSays s number n names ar listings table (record { numbers = numbersWith n (n .reward) (n .counts) h; answer = A.Nothing }) listings′ table′
             becomes-accepted number = record {
               says = λ state value q.
-                  line-accepted number q (line-is number state value) (adds number state value number-is (D .is)) (session-is state value q) (grown-stored q refl (grown state value q)) (q .indexed);
+                  line-accepted number q (line-is number state value) (adds number state value number-is (D .is)) (session-is state value q) (grown-stored q refl (grown state value q)) (q .indexed)
+                  (record { starts = a .starts ar truth-free; idle = λ z. (z, refl) });
             }

@@ -14,7 +14,7 @@ use Rattle.events.specs.Events.{firstWord}
 use Rattle.names.specs.Many.{many}
 use Rattle.names.specs.Keys.{keysAt}
 use Rattle.reading.specs.declared.Binding.{Binding}
-use Rattle.reading.specs.Callers.{keptCount, variableWords, argumentCount, Tables, Variables}
+use Rattle.reader.specs.Callers.{keptCount, variableWords, argumentCount, Tables, Variables}
 use Rattle.answers.specs.declared.Answer.the-variants.{Refused, Nothing}
 use Rattle.session.specs.declared.Part.the-variants.{Run}
 use Rattle.session.specs.declared.Rule.the-variants.{Misplaced}
@@ -27,7 +27,7 @@ use Rattle.facts.specs.Words.{FactIndex}
 use Rattle.model.specs.declared.Head.{Head}
 use Rattle.model_entry.specs.Building.{Building}
 use Rattle.memory.specs.declared.Numbers.{Numbers}
-use Rattle.memory.specs.Memory.{Memory, memoryOf, sessionOf, LineOf, Stored, Ready, Answers}
+use Rattle.memory.specs.Memory.{Memory, memoryOf, sessionOf, LineOf, Stored, Ready, Carried, Answers}
 use Rattle.memory.specs.QuietLaws.{quiet-refused, quiet-done, no-run}
 
 -- ===== What is lent =====
@@ -67,8 +67,8 @@ module _ {k : Kind} {s : List ℕ} (number : ℕ) {n : Numbers} {w : Memory} (q 
   line-refused f = quiet-refused (λ τ. τ) o e f (q .stored) (q .indexed)
 
   pub line-accepted : {m : Numbers} {v : Memory} {τ : Session} → o ≡ ok τ → sessionOf m v ≡ τ → Stored m v → FactIndex (v .arities) (v .state) (m .live)
-      → Answers k s number n w (record { numbers = m; answer = Nothing }) v
-  line-accepted f g b x = quiet-done (λ τ. τ) o e f g b x
+      → Carried n w m v → Answers k s number n w (record { numbers = m; answer = Nothing }) v
+  line-accepted f g b x c = quiet-done (λ τ. τ) o e f g b x c
 
 -- the numbers with a reward or none, the counts c and the head h
 abbrev pub numbersWith : Numbers → Bool → Counts → Head → Numbers

@@ -20,10 +20,10 @@ use Rattle.events.specs.LineEvents.{line-events}
 use Rattle.names.specs.Keys.{keysAt}
 use Rattle.names.specs.Layout.{parametersAt}
 use Rattle.reading.specs.declared.Binding.the-variants.{Any}
-use Rattle.reading.specs.declared.Scope.{Scope}
 use Rattle.reading.specs.Reading.{Written}
 use Rattle.reading.specs.Numbering.{rewardReading}
-use Rattle.reading.specs.Callers.{variableWords, namesOf as tableNames}
+use Rattle.reader.specs.declared.Scope.{Scope}
+use Rattle.reader.specs.Callers.{variableWords, namesOf as tableNames}
 use Rattle.drawing.specs.declared.Built.{Built}
 use Rattle.drawing.specs.declared.Built.the-variants.{Done, Refused}
 use Rattle.build.specs.Machine.{builtClosed}
@@ -37,11 +37,13 @@ use Rattle.steps.specs.GivenLaws.{then-then}
 use Rattle.planner.specs.Run.{heldIn}
 use Rattle.model.specs.declared.Head.{Head}
 use Rattle.model.specs.Layout.{modelOf}
-use Rattle.model_entry.specs.Building.{rewarded, RowsRoom, RewardAdded}
+use Rattle.model_entry.specs.Building.{rewarded}
+use Rattle.model_entry.specs.Adding.{RowsRoom, RewardAdded}
 use Rattle.memory.specs.declared.Numbers.{Numbers}
 use Rattle.memory.specs.Memory.{Memory, memoryOf, sessionOf, Ready}
 use Rattle.drawing.specs.Drawing.{drawnClosed, DiagramAt, Drawable, Draws}
 use Rattle.diagram_lines.specs.Lines.{roomed, roomedAs, Lent, RewardReady, RewardSays}
+use Rattle.diagram_lines.specs.ReadyLaws.{no-reward}
 use Rattle.diagram_lines.proofs.RoomLaws.{roomed-ok, draws-room, Drew, draws-refused, draws-done, drew-diagram, drew-canonical, drew-some, drew-room}
 use Rattle.diagram_lines.proofs.LineLaws.{line-short, line-begins, tables-of, no-keys, fresh-variables, line-refused, line-accepted, numbersWith, Grown, grown-stored}
 
@@ -168,5 +170,6 @@ module _ (s : List ℕ) (n : Numbers) (names ar listings : List ℕ) where
           says = λ table state value q.
               let w : Memory = memoryOf names ar listings table state value in
               line-accepted number q (reward-done s number n w) (ap (λ (o : Outcome Diagram). andThen o (λ y. ok (withReward (sessionOf n w) y))) (D .is))
-              (session-is table state value q) (grown-stored q refl (grown table state value q)) (q .indexed);
+              (session-is table state value q) (grown-stored q refl (grown table state value q)) (q .indexed)
+              (record { starts = a .starts table (no-reward q) (drew-some D); idle = λ y. (y, refl) });
         }

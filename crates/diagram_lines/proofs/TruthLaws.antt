@@ -28,14 +28,14 @@ use Rattle.events.specs.Front.{eventsOf}
 use Rattle.names.specs.Keys.{keysAt}
 use Rattle.names.specs.Layout.{declaredAt}
 use Rattle.reading.specs.declared.Binding.the-variants.{Only}
-use Rattle.reading.specs.declared.Opened.{Opened}
-use Rattle.reading.specs.declared.Opened.the-variants as P
-use Rattle.reading.specs.declared.Headed.{Headed}
-use Rattle.reading.specs.declared.Headed.the-variants as H
 use Rattle.reading.specs.Head.{Head, headNumber, headArguments, headKeys}
-use Rattle.reading.specs.Callers.{variableWords, namesOf as tableNames, judgedPredicate, PredicateWithin, Opens, judgedHead, HeadWithin, Heads}
 use Rattle.reading.specs.LineLaws.{becomes-arguments}
 use Rattle.reading.specs.OutcomeLaws.{apart, ok-one, chained}
+use Rattle.reader.specs.declared.Opened.{Opened}
+use Rattle.reader.specs.declared.Opened.the-variants as P
+use Rattle.reader.specs.declared.Headed.{Headed}
+use Rattle.reader.specs.declared.Headed.the-variants as H
+use Rattle.reader.specs.Callers.{variableWords, namesOf as tableNames, judgedPredicate, PredicateWithin, Opens, judgedHead, HeadWithin, Heads}
 use Rattle.label.specs.ArityLaws.{arity-most, arity-words}
 use Rattle.drawing.specs.declared.Built.{Built}
 use Rattle.drawing.specs.declared.Built.the-variants.{Done, Refused}
@@ -45,7 +45,7 @@ use Rattle.session.specs.ModelLines.{namesFor, isSome, truthsNow}
 use Rattle.session.specs.Replies.{wordsOf}
 use Rattle.declare.specs.Tables.{namesOf, GoodNames}
 use Rattle.model.specs.Layout.{modelOf}
-use Rattle.model_entry.specs.Building.{TruthRoom, HasTruth}
+use Rattle.model_entry.specs.Adding.{TruthRoom, HasTruth}
 use Rattle.memory.specs.declared.Numbers.{Numbers}
 use Rattle.drawing.specs.Drawing.{drawn, Drawable, Draws}
 use Rattle.diagram_lines.specs.Lines.{roomed, pickBuilt, roomedAs, lowered, loweredAs, BuiltIn, truthNumber, truthOf, Lent, actionScope, VariantOpen, TruthOpens}

@@ -28,9 +28,9 @@ use Rattle.names.specs.Layout.{constantsAt, declaredAt, actionsAt, parametersAt
 use Rattle.names.specs.KeyLaws.{length-keys, among-at, among-none, keys-same, length-put, put-before, keys-more}
 use Rattle.reading.specs.declared.Binding.the-variants.{None}
 use Rattle.reading.specs.Reading.{Written, arguments, reading}
-use Rattle.reading.specs.Callers.{variableWords, namesOf as tableNames}
-use Rattle.reading.specs.LineLaws.{next-splits}
 use Rattle.reading.specs.OutcomeLaws.{apart}
+use Rattle.reader.specs.Callers.{variableWords, namesOf as tableNames}
+use Rattle.reader.specs.SplitLaws.{next-splits}
 use Rattle.drawing.specs.declared.Built.{Built}
 use Rattle.drawing.specs.declared.Built.the-variants.{Done, Refused}
 use Rattle.build.specs.Machine.{built}
@@ -47,7 +47,8 @@ use Rattle.steps.specs.GivenLaws.{then-then}
 use Rattle.planner.specs.Run.{heldIn}
 use Rattle.model.specs.declared.Head.{Head}
 use Rattle.model.specs.Layout.{modelOf}
-use Rattle.model_entry.specs.Building.{withActions, newVariant, RowsRoom, VariantRoom, VariantAdded}
+use Rattle.model_entry.specs.Building.{withActions, newVariant}
+use Rattle.model_entry.specs.Adding.{RowsRoom, VariantRoom, VariantAdded}
 use Rattle.memory.specs.declared.Numbers.{Numbers}
 use Rattle.memory.specs.Memory.{Memory, memoryOf, sessionOf, LineOf, Ready}
 use Rattle.drawing.specs.Drawing.{drawn, Drawable, Draws}
@@ -304,5 +305,5 @@ module _ (s : List ℕ) (n : Numbers) (names ar listings table : List ℕ) {k : 
           says = λ state value q.
               line-accepted number q (line-is number state value)
               (ap (λ (o : Outcome Diagram). andThen o (λ z. ok (withVariant (sessionOf n (memoryOf names ar listings table state value)) k z))) (D .is))
-              (session-is state value q) (grown-stored q refl (grown state value q)) (q .indexed);
+              (session-is state value q) (grown-stored q refl (grown state value q)) (q .indexed) (record { starts = a .starts; idle = λ z. (z, refl) });
         }

@@ -23,10 +23,10 @@ use Rattle.names.specs.Keys.{putKey}
 use Rattle.names.specs.Layout.{variantsAt}
 use Rattle.reading.specs.declared.Binding.{Binding}
 use Rattle.reading.specs.declared.Binding.the-variants.{Only}
-use Rattle.reading.specs.declared.Scope.{Scope}
-use Rattle.reading.specs.declared.Opened.{Opened}
 use Rattle.reading.specs.Head.{headNumber, headArguments}
-use Rattle.reading.specs.Callers.{judgedPredicate, PredicateWithin}
+use Rattle.reader.specs.declared.Scope.{Scope}
+use Rattle.reader.specs.declared.Opened.{Opened}
+use Rattle.reader.specs.Callers.{judgedPredicate, PredicateWithin}
 use Rattle.drawing.specs.declared.Built.{Built}
 use Rattle.drawing.specs.declared.Built.the-variants.{Done, Refused}
 use Rattle.session.specs.Session.{Names, refuseIf}

@@ -1,12 +1,12 @@
 -- What the lines' functions require, from what the function of any line may rely on.
 use mathlib.Core.Path.{_≡_, refl, sym, ap, ap₂, subst, _∙_}
-use mathlib.Core.Bool.{Bool, true, false, not}
+use mathlib.Core.Bool.{Bool, true, false, not, true≢false}
 use mathlib.Core.List.{List, [], _∷_, _++_}
 use Prim.Native.Nat.{ℕ, zero, suc, _+_, _*_, _-_, _≤_, _<_}
 use native.Mathlib.Omega.{arith}
-use borrow.Author.Tests.{leb-true}
+use borrow.Author.Tests.{leb-true, eqb-true}
 use lib.ListN.{length}
-use lib.Dec.{leb}
+use lib.Dec.{eqb, leb}
 use Rattle.refusal.specs.Outcome.{ok}
 use Rattle.mdp.specs.Model.{Action, mostVariants}
 use Rattle.text.specs.declared.Kind.{Kind}
@@ -27,7 +27,7 @@ use Rattle.model.specs.Layout.{variantsOf, actionAt, modelOf}
 use Rattle.model_entry.specs.Building.{Spanned, variantsBefore}
 use Rattle.model_entry.specs.NameLaws.{variants-are, variants-before, spanned-few, before-few}
 use Rattle.memory.specs.declared.Numbers.{Numbers}
-use Rattle.memory.specs.Memory.{memoryOf, sessionOf, Ready, workWords}
+use Rattle.memory.specs.Memory.{Memory, memoryOf, sessionOf, Ready, workWords}
 use Rattle.diagram_lines.specs.Lines.{Lent, Listings, LastOf, RewardReady, VariantReady, BecomesReady}
 
 -- ===== Its place =====
@@ -49,10 +49,24 @@ module _ (σ : Session) where
   after-action Model e = some-of (length (σ .names .actions)) e
   after-action Run e = let z : _≡_ {A = ℕ} 0 1 = cc in absurd (omega arith)
 
+  before-reward : (p : Part) → allowed σ (ruleOf Reward p) ≡ ok tt → σ .singles .reward ≡ false
+  unfolding allowed
+  before-reward Model e = passes (σ .singles .reward) e
+  before-reward Run e = let z : _≡_ {A = ℕ} 0 1 = cc in absurd (omega arith)
+
   after-variant : (p : Part) → allowed σ (ruleOf Becomes p) ≡ ok tt → 0 < length (σ .names .variants)
   unfolding allowed
   after-variant Model e = some-of (length (σ .names .variants)) e
   after-variant Run e = let z : _≡_ {A = ℕ} 0 1 = cc in absurd (omega arith)
+
+-- a reward is the first
+pub no-reward : {s : List ℕ} {n : Numbers} {w : Memory} → Ready Reward s n w → n .head .«reward_words» ≡ 0
+unfolding sessionOf
+no-reward {s} {n} {w} q = go (eqb (n .head .«reward_words») 0) refl
+  where
+    go : (b : Bool) → eqb (n .head .«reward_words») 0 ≡ b → n .head .«reward_words» ≡ 0
+    go true e = eqb-true (n .head .«reward_words») 0 e
+    go false e = absurd (true≢false (sym (q .stored .reward ∙ ap not e) ∙ before-reward (sessionOf n w) (n .part) (q .place)))
 
 -- ===== The last action =====
 

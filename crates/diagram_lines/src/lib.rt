@@ -4,10 +4,10 @@ use declare::Counts;
 use drawing::Built;
 use memory::Numbers;
 use memory::Said;
+use reader::Headed;
+use reader::Opened;
+use reader::Scope;
 use reading::Binding;
-use reading::Headed;
-use reading::Opened;
-use reading::Scope;
 use refusal::Refusal;
 use text::Kind;
 use words::Key;
@@ -22,7 +22,7 @@ ghost use Rattle.events.specs.Front.{eventsOf};
 ghost use Rattle.names.specs.Keys.{keysAt};
 ghost use Rattle.names.specs.Layout.{variantsAt};
 ghost use Rattle.reading.specs.declared.Binding.the-variants.{Only};
-ghost use Rattle.reading.specs.Callers.{namesOf as tableNames};
+ghost use Rattle.reader.specs.Callers.{namesOf as tableNames};
 ghost use Rattle.session.specs.ModelLines.{rewardRead, weightRead};
 ghost use Rattle.session.specs.Replies.{wordsOf};
 ghost use Rattle.declare.specs.Tables.{namesOf, GoodNames};
@@ -65,7 +65,7 @@ fn read_reward(
     ensures { λ r. ⌜ Draws (now (arities .entry)) (rewardRead (namesOf (now (names .entry)) (n .counts)) (now (arities .entry)) (n .head .words / 3) (wordsOf Reward (now (line .entry)))) r (now (out .exit)) ⌝ }
 {
     let at = events::first_word(Kind::Reward);
-    let mut variables = [0u64; reading::VARIABLE_WORDS];
+    let mut variables = [0u64; reader::VARIABLE_WORDS];
     let scope = Scope {
         constants: n.counts.constants,
         predicates: n.counts.predicates,
@@ -131,7 +131,7 @@ fn read_weight(
     if names::find(names, base, count, key) < count {
         return Built::Refused(Refusal::Name);
     }
-    let mut variables = [0u64; reading::VARIABLE_WORDS];
+    let mut variables = [0u64; reader::VARIABLE_WORDS];
     let scope = Scope {
         constants: n.counts.constants,
         predicates: n.counts.predicates,
@@ -260,9 +260,9 @@ fn read_truth(
     ensures { λ r. ⌜ Draws (now (arities .entry)) (truthOf (namesOf (now (names .entry)) (n .counts)) (now (arities .entry)) p (n .head .words / 3) (wordsOf Becomes (now (line .entry)))) r (now (out .exit)) ⌝ }
 {
     let first = events::first_word(Kind::Becomes);
-    let mut variables = [0u64; reading::VARIABLE_WORDS];
+    let mut variables = [0u64; reader::VARIABLE_WORDS];
     let arity = arities[p] as usize;
-    let headed = reading::head_arguments(line, first, &mut variables, arity);
+    let headed = reader::head_arguments(line, first, &mut variables, arity);
     match headed {
         Headed::Refused(why) => Built::Refused(why),
         Headed::Arguments(at) => draw_truth(
@@ -287,7 +287,7 @@ fn open_truth(line: &[u8], n: Numbers, names: &[u64], table: &[u64]) -> Opened
     ensures { λ r. ⌜ TruthOpens n (now (names .entry)) (now (table .entry)) (wordsOf Becomes (now (line .entry))) r ⌝ }
 {
     let first = events::first_word(Kind::Becomes);
-    let opened = reading::head_predicate(line, first, names, n.counts.predicates);
+    let opened = reader::head_predicate(line, first, names, n.counts.predicates);
     let Opened::Predicate(p) = opened else {
         return opened;
     };

@@ -11,6 +11,7 @@ use Rattle.session_laws.specs.TableLaws.{done-bare}
 use Rattle.memory.specs.declared.Numbers.{Numbers}
 use Rattle.memory.specs.declared.Said.{Said}
 use Rattle.memory.specs.Memory.{Memory, memoryOf, sessionOf, Ready, Answers}
+use Rattle.memory.specs.CarriedLaws.{carried-same}
 use Rattle.declaration_lines.specs.Lines.{ConstantSays, PredicateSays, TotalSays, DiscountSays, ActionSays}
 use Rattle.desk_lines.specs.Lines.{BestAnswered, CountAnswered, DidAnswered}
 use Rattle.diagram_lines.specs.Lines.{RewardSays, VariantSays, BecomesSays}
@@ -151,5 +152,5 @@ module _ {k : Kind} {s : List ℕ} (number : ℕ) {n : Numbers} {names arities l
   unfolding done
   bad-answers {r} e q =
       let w = memoryOf names arities listings table state value in
-      let a : Answers k s number n w (noLine number n) w = record { answer = rw e; session = rw e; stored = h .stored; indexed = h .indexed } in
+      let a : Answers k s number n w (noLine number n) w = record { answer = rw e; session = rw e; stored = h .stored; indexed = h .indexed; carried = carried-same n w } in
       performed e refl (subst (λ (x : Said). Answers k s number n w x w) (sym q) a)

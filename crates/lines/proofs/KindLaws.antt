@@ -74,8 +74,12 @@ modelNumbers = 0 ∷ 1 ∷ 2 ∷ 3 ∷ 4 ∷ 5 ∷ 6 ∷ 7 ∷ []
 abbrev notModelNumbers : List ℕ
 notModelNumbers = 8 ∷ 9 ∷ 10 ∷ 11 ∷ 12 ∷ 13 ∷ 14 ∷ 15 ∷ 16 ∷ 17 ∷ 18 ∷ 19 ∷ 20 ∷ 21 ∷ []
 
-abbrev runNumbers : List ℕ
-runNumbers = 8 ∷ 13 ∷ 14 ∷ 15 ∷ 16 ∷ 17 ∷ 18 ∷ 19 ∷ 20 ∷ []
+-- those of the run that change the value, and those that ask for something
+abbrev changeNumbers : List ℕ
+changeNumbers = 8 ∷ 13 ∷ 14 ∷ 16 ∷ []
+
+abbrev askNumbers : List ℕ
+askNumbers = 15 ∷ 17 ∷ 18 ∷ 19 ∷ 20 ∷ []
 
 abbrev notRunNumbers : List ℕ
 notRunNumbers = 0 ∷ 1 ∷ 2 ∷ 3 ∷ 4 ∷ 5 ∷ 6 ∷ 7 ∷ 9 ∷ 10 ∷ 11 ∷ 12 ∷ 21 ∷ []
@@ -87,8 +91,11 @@ module _ (k : Kind) where
   pub none-of-model : isOfModel k ≡ true → OneOf notModelNumbers (tag k) → ⊥
   none-of-model e y = refuted e (told (λ (l : Kind). not (isOfModel l)) notModelNumbers refl k y)
 
-  pub told-run : OneOf runNumbers (tag k) → isOfRun k ≡ true
-  told-run y = told isOfRun runNumbers refl k y
+  pub told-change : OneOf changeNumbers (tag k) → isOfRun k ≡ true
+  told-change y = told isOfRun changeNumbers refl k y
+
+  pub told-ask : OneOf askNumbers (tag k) → isOfRun k ≡ true
+  told-ask y = told isOfRun askNumbers refl k y
 
   pub none-of-run : isOfRun k ≡ true → OneOf notRunNumbers (tag k) → ⊥
   none-of-run e y = refuted e (told (λ (l : Kind). not (isOfRun l)) notRunNumbers refl k y)

@@ -3,4 +3,5 @@ pub mod PlaceLaws
 pub mod OpenLaws
 pub mod KindLaws
 pub mod AnswerLaws
+pub mod KeptLaws
 pub mod ReplyLaws

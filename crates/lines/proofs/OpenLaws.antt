@@ -106,4 +106,4 @@ module _ {ar s t : List ℕ} (e : ar ≡ opening .model .arities) (r : stateWord
       record { kept = record { stored = stored-opening w; good = subst GoodSession (sym q) opening-good; indexed = index-none refl (m .clean) }; session = q }
 
 pub opened : {br ar s t : List ℕ} {n : Numbers} → stateWords ≤ length s → ar ≡ opening .model .arities → Emptied s t → n ≡ openingNumbers → Opened br s n ar t
-opened {br} r e m q = rw q (record { says = opening-all e r m br })
+opened {br} r e m q = rw q (record { numbers = refl; says = opening-all e r m br })

@@ -22,14 +22,15 @@ use Rattle.session.specs.Texts.{tableOf}
 use Rattle.session.specs.Good.{GoodSession}
 use Rattle.session_laws.specs.CaseLaws.{reply-line}
 use Rattle.session_laws.specs.BlankLaws.{blank-leaves}
-use Rattle.session_laws.specs.MemoryLaws.{kept-good}
 use Rattle.memory.specs.declared.Numbers.{Numbers}
 use Rattle.memory.specs.declared.Said.{Said}
 use Rattle.memory.specs.Memory.{Memory, sessionOf, Ready, Shown, Kept, Replied}
+use Rattle.memory.specs.CarriedLaws.{carried-same}
 use Rattle.lines.specs.declared.Placed.{Placed}
 use Rattle.lines.specs.declared.Placed.the-variants.{Done, Refused}
 use Rattle.lines.specs.Lines.{Performed}
 use Rattle.lines.specs.Placing.{placedAs, Counted, Placing}
+use Rattle.lines.proofs.KeptLaws.{kept-good}
 
 -- ===== The place =====
 
@@ -105,6 +106,7 @@ answer-blank {n} {w} h [] number e {work} =
       session = ap (λ (t : Reply). t .session) y;
       kept = h;
       shown = subst (λ (t : Reply). Shown t work) y refl;
+      carried = carried-same n w;
     }
 answer-blank h (b ∷ s) number e = absurd (omega arith)
 
@@ -128,7 +130,13 @@ module _ {n : Numbers} {w : Memory} {k : Kind} {rule : Rule} {p : Placed} (h : K
       let σ = sessionOf n w in
       let x = placed-refused (allowed σ (ruleOf k (n .part))) r (sym e ∙ place-told σ k (n .part) b (c .is (w .names) (w .arities) (w .listings) (w .value))) in
       let y = sym (reply-refused σ number s o r (subst (λ (z : Kind). allowed σ (ruleOf z (n .part)) ≡ refused r) a x)) in
-      record { answer = ap (λ t. t .answer) y; session = ap (λ t. t .session) y; kept = h; shown = subst (λ (t : Reply). Shown t work) y refl }
+      record {
+        answer = ap (λ t. t .answer) y;
+        session = ap (λ t. t .session) y;
+        kept = h;
+        shown = subst (λ (t : Reply). Shown t work) y refl;
+        carried = carried-same n w;
+      }
 
   pub answer-done : {s : List ℕ} {number : ℕ} {r : Said} {w′ : Memory} {work′ : List ℕ} → (length s ≡ 0 → ⊥) → k ≡ lineKind s → p ≡ Done
       → Performed k s number n w r w′ work′ → Replied s number n w r w′ work′
@@ -145,4 +153,5 @@ module _ {n : Numbers} {w : Memory} {k : Kind} {rule : Rule} {p : Placed} (h : K
         session = m;
         kept = record { stored = d .stored; good = subst GoodSession (sym m) (kept-good n w h number s); indexed = d .indexed };
         shown = subst (λ (t : Reply). Shown t work′) z (f .shown);
+        carried = d .carried;
       }

@@ -9,15 +9,16 @@ use Rattle.session.specs.Session.{opening}
 use Rattle.session.specs.Replies.{done, wordsOf}
 use Rattle.memory.specs.declared.Numbers.{Numbers}
 use Rattle.memory.specs.declared.Said.{Said}
-use Rattle.memory.specs.Memory.{Memory, memoryOf, sessionOf, Ready, Answers, Shown, Kept, Rooms}
+use Rattle.memory.specs.Memory.{Memory, memoryOf, sessionOf, Ready, Answers, Shown, Kept, Rooms, openingNumbers}
 
 -- numbers and words are the opening session
 pub record Opening (n : Numbers) (w : Memory) : Type 0 where
   pub kept : Kept n w
   pub session : sessionOf n w ≡ opening
 
--- whatever the other words are, if they have their room
+-- the numbers are those before the first line; whatever the other words are, if they have their room
 pub record Opened (arities state : List ℕ) (r : Numbers) (arities′ state′ : List ℕ) : Type 0 where
+  pub numbers : r ≡ openingNumbers
   pub says : (names listings table value : List ℕ) → Rooms (memoryOf names arities listings table state value)
       → Opening r (memoryOf names arities′ listings table state′ value)
 

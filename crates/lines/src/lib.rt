@@ -260,7 +260,7 @@ fn perform_run(
 }
 
 // What a line of the kind asks for, where it stands where it may: those of the state and its value come often, and are answered here, so that they do
-// not pay for the room that the others need.
+// not pay for the room that the others need. `perform_run` is called at two places, so that the compiler keeps it a function of its own, with its room.
 fn perform(
     kind: Kind,
     line: &[u8],
@@ -302,6 +302,19 @@ fn perform(
             arities,
             listings,
             table,
+            work,
+        ),
+        Kind::Start | Kind::Backup | Kind::Cut | Kind::Reduce => perform_run(
+            kind,
+            line,
+            number,
+            n,
+            names,
+            arities,
+            listings,
+            table,
+            state,
+            value,
             work,
         ),
         Kind::Bad => no_line(number, n),
@@ -347,7 +360,7 @@ pub fn answer(
             answer: Answer::Nothing,
         };
     }
-    let kind = text::read_line(line);
+    let kind = line_reader::read_line(line);
     let part = n.part;
     let rule = session::rule_of(kind, part);
     match allowed(rule, n, table, state) {

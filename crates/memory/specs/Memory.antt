@@ -26,6 +26,7 @@ use Rattle.facts.specs.declared.Live.{Live}
 use Rattle.facts.specs.Words.{stateWords, liveOf, GoodLive, FactIndex}
 use Rattle.model.specs.Layout.{listingWords, tableWords, modelOf}
 use Rattle.model_entry.specs.Building.{Building}
+use Rattle.model_entry.specs.Starts.{SlotStarts, startsIn, KeepsStarts}
 use Rattle.planner.specs.Run.{heldIn}
 use Rattle.memory.specs.declared.Numbers.{Numbers}
 use Rattle.memory.specs.declared.Said.{Said}
@@ -62,6 +63,10 @@ sessionOf n w = record {
   held = heldIn (n .held) (w .value);
 }
 
+-- where the listings of its model begin
+abbrev pub startsOf : Numbers → Memory → SlotStarts
+startsOf n w = startsIn (w .table) (n .head)
+
 -- the reward, the value's listing, k and S^k once the run has begun
 pub record Holding (n : Numbers) (w : Memory) : Type 0 where
   pub reward : n .head .«reward_words» ≡ 0 → ⊥
@@ -95,12 +100,18 @@ pub record Ready (k : Kind) (s : List ℕ) (n : Numbers) (w : Memory) : Type 0 w
   pub indexed : FactIndex (w .arities) (w .state) (n .live)
   pub place : allowed (sessionOf n w) (ruleOf k (n .part)) ≡ ok tt
 
--- what it promises: the answer, and the session behind it
+-- what a line carries over beside the session: where listings begin; before the run, to which no line leads back, the numbers of the value, which is none yet
+pub record Carried (n : Numbers) (w : Memory) (n′ : Numbers) (w′ : Memory) : Type 0 where
+  pub starts : KeepsStarts (w .table) (n .head) (w′ .table) (n′ .head)
+  pub idle : n′ .part ≡ Model → (n .part ≡ Model) × (n′ .held ≡ n .held)
+
+-- what it promises: the answer, the session behind it, and what is carried over
 pub record Answers (k : Kind) (s : List ℕ) (number : ℕ) (n : Numbers) (w : Memory) (r : Said) (w′ : Memory) : Type 0 where
   pub answer : r .answer ≡ done (sessionOf n w) number k (wordsOf k s) .answer
   pub session : sessionOf (r .numbers) w′ ≡ done (sessionOf n w) number k (wordsOf k s) .session
   pub stored : Stored (r .numbers) w′
   pub indexed : FactIndex (w′ .arities) (w′ .state) (r .numbers .live)
+  pub carried : Carried n w (r .numbers) w′
 
 -- numbers and words that are a session's; the index of its facts may be anything
 pub record IsSession (n : Numbers) (w : Memory) : Type 0 where
@@ -124,6 +135,7 @@ pub record Replied (s : List ℕ) (number : ℕ) (n : Numbers) (w : Memory) (r :
   pub session : sessionOf (r .numbers) w′ ≡ reply (sessionOf n w) number s .session
   pub kept : Kept (r .numbers) w′
   pub shown : Shown (reply (sessionOf n w) number s) work′
+  pub carried : Carried n w (r .numbers) w′
 
 -- working space of a session: the rows that a call forms, or two words for each parameter of a line
 abbrev pub workWords : ℕ

@@ -15,7 +15,8 @@ use Rattle.session.specs.Session.{Session}
 use Rattle.session.specs.Replies.{Reply, allowed, quietly, done, wordsOf}
 use Rattle.facts.specs.Words.{FactIndex}
 use Rattle.memory.specs.declared.Numbers.{Numbers}
-use Rattle.memory.specs.Memory.{Memory, sessionOf, Stored, Ready, Answers}
+use Rattle.memory.specs.Memory.{Memory, sessionOf, Stored, Ready, Carried, Answers}
+use Rattle.memory.specs.CarriedLaws.{carried-same}
 
 module _ {A : Type 0} {k : Kind} {s : List ℕ} {number : ℕ} {n : Numbers} {w : Memory} (f : A → Session) (o : Outcome A)
     (e : done (sessionOf n w) number k (wordsOf k s) ≡ quietly (sessionOf n w) number f o) where
@@ -23,13 +24,13 @@ module _ {A : Type 0} {k : Kind} {s : List ℕ} {number : ℕ} {n : Numbers} {w 
       → Answers k s number n w (record { numbers = n; answer = Refused why number }) w
   quiet-refused p t x =
       let q = e ∙ ap (quietly (sessionOf n w) number f) p in
-      record { answer = sym (ap (λ (r : Reply). r .answer) q); session = sym (ap (λ (r : Reply). r .session) q); stored = t; indexed = x }
+      record { answer = sym (ap (λ (r : Reply). r .answer) q); session = sym (ap (λ (r : Reply). r .session) q); stored = t; indexed = x; carried = carried-same n w }
 
   pub quiet-done : {a : A} {n′ : Numbers} {w′ : Memory} → o ≡ ok a → sessionOf n′ w′ ≡ f a → Stored n′ w′ → FactIndex (w′ .arities) (w′ .state) (n′ .live)
-      → Answers k s number n w (record { numbers = n′; answer = Nothing }) w′
-  quiet-done p h t x =
+      → Carried n w n′ w′ → Answers k s number n w (record { numbers = n′; answer = Nothing }) w′
+  quiet-done p h t x c =
       let q = e ∙ ap (quietly (sessionOf n w) number f) p in
-      record { answer = sym (ap (λ (r : Reply). r .answer) q); session = h ∙ sym (ap (λ (r : Reply). r .session) q); stored = t; indexed = x }
+      record { answer = sym (ap (λ (r : Reply). r .answer) q); session = h ∙ sym (ap (λ (r : Reply). r .session) q); stored = t; indexed = x; carried = c }
 
 -- a line that may not stand in the run is met in the model
 pub no-run : {k : Kind} {s : List ℕ} {n : Numbers} {w : Memory} → ruleOf k Run ≡ Misplaced → Ready k s n w → n .part ≡ Run → ⊥

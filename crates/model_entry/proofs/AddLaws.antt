@@ -11,9 +11,12 @@ use Rattle.diagram.specs.Listing.{diagramOf}
 use Rattle.state.specs.ValueLaws.{by-low}
 use Rattle.model.specs.declared.Head.{Head}
 use Rattle.model.specs.Layout.{part, listingWords, actionWords, variantPlace, variantAt, variantsOf, actionAt, rewardWords, modelOf}
-use Rattle.model_entry.specs.Building.{modelWith, SpannedAction, Spanned, Canonical, ListedVariant, Listed, Building, withActions, rewarded, newAction, moreActions, rewardHead}
-use Rattle.model_entry.specs.Building.{ActionRoom, ActionAdded, RowsRoom, RewardAdded}
+use Rattle.model_entry.specs.Building.{modelWith, SpannedAction, Spanned, Canonical, ListedVariant, Listed, Building, withActions, rewarded, newAction}
+use Rattle.model_entry.specs.Starts.{KeepsStarts}
+use Rattle.model_entry.specs.Adding.{moreActions, rewardHead}
+use Rattle.model_entry.specs.Adding.{ActionRoom, ActionAdded, RowsRoom, RewardAdded}
 use Rattle.model_entry.specs.WordLaws.{Same, actionOf, actionUse, paste-before, paste-there, action-same, spanned-action, canonical-on, listed-variant}
+use Rattle.model_entry.proofs.StartLaws.{NewVariant, starts-kept, starts-rewarded}
 
 -- a list and one more
 abbrev pub snoc : {A : Type 0} → List A → A → List A
@@ -51,6 +54,9 @@ module _ (t : List ℕ) (h : Head) (c : ℕ) (r : ActionRoom t h) where
   none-from : (a : ℕ) → a < h .actions + 1 → h .actions ≤ a → variantsOf t′ a ≡ 0
   none-from a x y = let e : a ≡ h .actions = omega arith in ap (variantsOf t′) e ∙ variants-none
 
+  stays : (a : ℕ) → a < h .actions → Same t t′ (a * actionWords) (actionUse t a)
+  stays a q = below-action t t′ (h .actions) a (h .words) words-same q (r .spanned .actions a q)
+
   action-new : (l : List ℕ) → actionAt l t′ (h .actions) ≡ newAction c
   unfolding actionAt many
   action-new l = ap₂ actionOf count-is (ap (many (λ v. variantAt l t′ (variantPlace (h .actions) v))) variants-none)
@@ -62,7 +68,7 @@ module _ (t : List ℕ) (h : Head) (c : ℕ) (r : ActionRoom t h) where
       ap (many (actionAt l t′)) e
       ∙ ap₂ snoc
       (many-ext (actionAt l t′) (actionAt l t) (h .actions)
-      (λ a q. let x = r .spanned .actions a q in action-same l l t t′ (h .words) refl a (below-action t t′ (h .actions) a (h .words) words-same q x) x))
+      (λ a q. action-same l l t t′ (h .words) refl a (stays a q) (r .spanned .actions a q)))
       (action-new l)
 
   action-model : (ar l : List ℕ) → modelOf ar l t′ (moreActions h) ≡ withActions (modelOf ar l t h) (modelOf ar l t h .actions ++ (newAction c ∷ []))
@@ -76,8 +82,7 @@ module _ (t : List ℕ) (h : Head) (c : ℕ) (r : ActionRoom t h) where
     used = r .spanned .used;
     reward = r .spanned .reward;
     actions = λ a q. by-low (SpannedAction t′ (h .words) a) (h .actions) a
-        (λ k. let x = r .spanned .actions a k in
-        spanned-action [] [] t t′ (h .words) (h .words) refl (omega arith) a (below-action t t′ (h .actions) a (h .words) words-same k x) x)
+        (λ k. spanned-action [] [] t t′ (h .words) (h .words) refl (omega arith) a (stays a k) (r .spanned .actions a k))
         (λ k. let z = none-from a q k in record { few = omega (arith, z); variants = λ v y. absurd (omega (arith, z, y)) });
   }
 
@@ -87,12 +92,18 @@ module _ (t : List ℕ) (h : Head) (c : ℕ) (r : ActionRoom t h) where
     variants = λ a v q k. by-low (ListedVariant l t′ (variantPlace a v)) (h .actions) a
         (λ z.
         let y = r .spanned .actions a z in
-        let s = below-action t t′ (h .actions) a (h .words) words-same z y in
+        let s = stays a z in
         let u = s (a * actionWords + 1) (omega arith) (omega arith) in
         let g : v < variantsOf t a = omega (arith, u, k) in
         listed-variant l l t t′ (h .words) (h .words) refl (omega arith) (variantPlace a v) (λ j m o. s j (omega arith) (omega arith)) (y .variants v g) (x .variants a v z g))
         (λ z. absurd (omega (arith, none-from a q z, k)));
   }
+
+  action-starts : KeepsStarts t h t′ (moreActions h)
+  action-starts = starts-kept t t′ h (moreActions h) refl refl (λ a v q k j y z. stays a q j (omega arith) (omega (arith, k)))
+      (λ a v q k n. by-low (NewVariant t′ (h .words) (variantPlace a v)) (h .actions) a
+      (λ z. absurd (n z (omega (arith, stays a z (a * actionWords + 1) (omega arith) (omega arith), k))))
+      (λ z. absurd (omega (arith, none-from a q z, k))))
 
   pub action-added : ActionAdded t h c (set (set t (h .actions * actionWords) c) (h .actions * actionWords + 1) 0) (moreActions h)
   action-added = record {
@@ -100,6 +111,7 @@ module _ (t : List ℕ) (h : Head) (c : ℕ) (r : ActionRoom t h) where
     variants = variants-none;
     model = action-model;
     building = λ l b. record { spanned = action-spanned; listed = action-listed l (b .listed) };
+    starts = action-starts;
   }
 
 -- ===== A reward =====
@@ -144,4 +156,6 @@ module _ {l l′ out : List ℕ} {h : Head} {n : ℕ} (p : Appended l (h .words)
 
 pub reward-added : {l l′ out : List ℕ} {h : Head} {rows : ℕ} → RowsRoom l h out rows → l′ ≡ paste l (h .words) out (rows * 3)
     → RewardAdded l h out rows l′ (rewardHead h (rows * 3))
-reward-added r e = let p = appended r e in record { answer = refl; model = reward-model p; building = reward-building p (r .room) }
+reward-added {h = h} {rows} r e =
+    let p = appended r e in
+    record { answer = refl; model = reward-model p; building = reward-building p (r .room); starts = λ t z s. starts-rewarded t h rows z s }

@@ -1,5 +1,6 @@
 -- Laws that the functions' proofs use.
 pub mod CountLaws
+pub mod StartLaws
 pub mod AddLaws
 pub mod VariantLaws
 pub mod TruthLaws

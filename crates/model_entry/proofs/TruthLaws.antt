@@ -10,6 +10,7 @@ use lib.Seq.{getD-set-same, getD-set-other, paste}
 use lib.Dec.{eqb}
 use borrow.Author.Tests.{ne-eqb, eqb-true, eqb-false}
 use Rattle.basics.specs.Tests.{Flag, isTrue, isFalse, flag}
+use Rattle.basics.specs.Members.{clash}
 use Rattle.label.specs.Limits.{predicateCount}
 use Rattle.names.specs.Many.{many}
 use Rattle.names.specs.ManyLaws.{many-ext}
@@ -22,8 +23,10 @@ use Rattle.mdp.specs.Model.{Variant, Action, mostVariants}
 use Rattle.model.specs.declared.Head.{Head}
 use Rattle.model.specs.Layout.{part, variantWords, actionWords, variantPlace, weightWords, spansAt, variantAt, variantsOf, actionAt, modelOf}
 use Rattle.session.specs.ModelLines.{lastVariant, lastTruths, withTruthAt, truthsNow, truthsOfLast, isSome}
-use Rattle.model_entry.specs.Building.{modelWith, Inside, truthPlace, SpannedVariant, SpannedAction, Canonical, ListedVariant, Listed, withActions, RowsRoom, TruthRoom}
-use Rattle.model_entry.specs.Building.{HasTruth, TruthAdded, lastPlace, TruthPlaced, moreWords}
+use Rattle.model_entry.specs.Building.{modelWith, Inside, truthPlace, SpannedVariant, SpannedAction, Canonical, ListedVariant, Listed, withActions}
+use Rattle.model_entry.specs.Starts.{Slot, reward, weight, truth, startsIn, HasListing, KeepsStarts}
+use Rattle.model_entry.specs.Adding.{RowsRoom, TruthRoom}
+use Rattle.model_entry.specs.Adding.{HasTruth, TruthAdded, lastPlace, TruthPlaced, moreWords}
 use Rattle.model_entry.specs.WordLaws.{Same, variantOf, actionOf, actionUse, part-under, truth-none, truth-here, truth-same, truths-over, span-same, action-same, variant-same}
 use Rattle.model_entry.specs.WordLaws.{inside-kept, spanned-variant, spanned-action, canonical-on, listed-variant}
 use Rattle.model_entry.proofs.AddLaws.{snoc, below-action, Appended, appended}
@@ -95,7 +98,20 @@ module _ {t : List ℕ} {h : Head} {p : ℕ} (r : TruthRoom t h p) where
   pub truth-placed : TruthPlaced t h p ((h .actions - 1) * actionWords + 2 + (variantsOf t (h .actions - 1) - 1) * variantWords + 2 + p * 2)
   truth-placed = record { place = refl; inside = omega (arith, last-room, r .declared) }
 
+  -- no diagram: no words
+  none-here : (ar l : List ℕ) → isSome (truthsNow (modelOf ar l t h .actions) p) ≡ false → getD t (truthPlace (lastPlace t h) p + 1) 0 ≡ 0
+  none-here ar l e = go (flag (eqb (getD t (truthPlace (lastPlace t h) p + 1) 0) 0))
+    where
+      go : Flag (eqb (getD t (truthPlace (lastPlace t h) p + 1) 0) 0) → getD t (truthPlace (lastPlace t h) p + 1) 0 ≡ 0
+      go (isTrue z) = eqb-true (getD t (truthPlace (lastPlace t h) p + 1) 0) 0 z
+      go (isFalse z) = clash refl (has-one truth-placed (eqb-false (getD t (truthPlace (lastPlace t h) p + 1) 0) 0 z) .answer ar l ∙ e)
+
 -- ===== One more =====
+
+-- the variant u of the action k stays with all its words, or it is the last variant n of the last action a
+data Where (t t′ : List ℕ) (a n k u : ℕ) : Type 0 where
+  before-it : Same t t′ (variantPlace k u) variantWords → Where t t′ a n k u
+  itself : k ≡ a → u ≡ n → Where t t′ a n k u
 
 pub second-room : {t : List ℕ} {h : Head} {p i : ℕ} (x : ℕ) → TruthPlaced t h p i → i + 1 < length (set t i x)
 second-room {t} {h} {p} {i} x s = omega (arith, length-set t i x, s .inside)
@@ -167,11 +183,17 @@ module _ {l l′ t out : List ℕ} {h : Head} {rows p : ℕ} (r : RowsRoom l h o
   earlier-variant : (u : ℕ) → u < n → Same t t′ (variantPlace a u) variantWords
   earlier-variant u z j x y = before j (omega arith)
 
-  other-truth : (k : ℕ) → (k ≡ p → ⊥) → (getD t′ (truthPlace i k) 0 ≡ getD t (truthPlace i k) 0) × (getD t′ (truthPlace i k + 1) 0 ≡ getD t (truthPlace i k + 1) 0)
-  other-truth k z = (
-    kept (truthPlace i k) (λ y. z (omega arith)) (λ y. z (omega arith)),
-    kept (truthPlace i k + 1) (λ y. z (omega arith)) (λ y. z (omega arith)),
+  -- the words of the last variant's other truth diagrams
+  other-stays : (k u g : ℕ) → k ≡ a → u ≡ n → (g ≡ p → ⊥)
+      → (getD t′ (truthPlace (variantPlace k u) g) 0 ≡ getD t (truthPlace (variantPlace k u) g) 0)
+      × (getD t′ (truthPlace (variantPlace k u) g + 1) 0 ≡ getD t (truthPlace (variantPlace k u) g + 1) 0)
+  other-stays k u g x y z = (
+    kept (truthPlace (variantPlace k u) g) (λ o. z (omega arith)) (λ o. z (omega arith)),
+    kept (truthPlace (variantPlace k u) g + 1) (λ o. z (omega arith)) (λ o. z (omega arith)),
   )
+
+  other-truth : (k : ℕ) → (k ≡ p → ⊥) → (getD t′ (truthPlace i k) 0 ≡ getD t (truthPlace i k) 0) × (getD t′ (truthPlace i k + 1) 0 ≡ getD t (truthPlace i k + 1) 0)
+  other-truth k z = other-stays a n k refl refl z
 
   new-words : weightWords l′ t′ q ≡ take (rows * 3) out
   new-words = ap₂ (part l′) (pair-first t q (h .words) (rows * 3) room) (pair-second t q (h .words) (rows * 3) room) ∙ c .there
@@ -309,6 +331,58 @@ module _ {l l′ t out : List ℕ} {h : Head} {rows p : ℕ} (r : RowsRoom l h o
         let g : u < variantsOf t′ a = subst (λ (x : ℕ). u < variantsOf t′ x) (sym m) s in
         subst (λ (x : ℕ). ListedVariant l′ t′ (variantPlace x u)) m (variant-listed u (omega (arith, variants-now-some, g))))
 
+  -- ===== Where listings begin =====
+
+  where-is : (k u : ℕ) → k < h .actions → u < variantsOf t k → Where t t′ a n k u
+  where-is k u y s = by-low (Where t t′ a n k u) a k
+      (λ z. before-it (λ j f g. earlier k z j (omega arith) (omega (arith, s))))
+      (λ z.
+      let m : k ≡ a = omega (arith, actions-some) in
+      let g : u < variantsOf t a = subst (λ (x : ℕ). u < variantsOf t x) m s in
+      by-low (Where t t′ a n k u) n u
+      (λ o. before-it (subst (λ (x : ℕ). Same t t′ (variantPlace x u) variantWords) (sym m) (earlier-variant u o)))
+      (λ o. itself m (omega (arith, variants-some))))
+
+  variants-stay : (k : ℕ) → k < h .actions → variantsOf t′ k ≡ variantsOf t k
+  variants-stay k y = before (k * actionWords + 1) (omega (arith, actions-some))
+
+  module _ (none-yet : getD t (q + 1) 0 ≡ 0) where
+    weight-stays : (k u : ℕ) → Where t t′ a n k u → getD t′ (variantPlace k u) 0 ≡ getD t (variantPlace k u) 0
+    weight-stays k u (before-it s) = s (variantPlace k u) (omega arith) (omega arith)
+    weight-stays k u (itself x y) = before (variantPlace k u) (omega arith)
+
+    truth-stays : (k u g : ℕ) → g < predicateCount → (getD t (truthPlace (variantPlace k u) g + 1) 0 ≡ 0 → ⊥) → Where t t′ a n k u → Flag (eqb g p)
+        → getD t′ (truthPlace (variantPlace k u) g) 0 ≡ getD t (truthPlace (variantPlace k u) g) 0
+    truth-stays k u g f s (before-it y) z = y (truthPlace (variantPlace k u) g) (omega arith) (omega arith)
+    truth-stays k u g f s (itself x y) (isTrue z) =
+        let m : truthPlace (variantPlace k u) g + 1 ≡ q + 1 = omega (arith, eqb-true g p z) in
+        absurd (s (ap (λ (j : ℕ). getD t j 0) m ∙ none-yet))
+    truth-stays k u g f s (itself x y) (isFalse z) = other-stays k u g x y (eqb-false g p z) .0
+
+    truth-new : (k u g : ℕ) → g < predicateCount → (getD t′ (truthPlace (variantPlace k u) g + 1) 0 ≡ 0 → ⊥)
+        → ((getD t (truthPlace (variantPlace k u) g + 1) 0 ≡ 0 → ⊥) → ⊥) → Where t t′ a n k u → Flag (eqb g p)
+        → getD t′ (truthPlace (variantPlace k u) g) 0 ≡ h .words
+    truth-new k u g f s o (before-it y) z = absurd (o (λ d. s (y (truthPlace (variantPlace k u) g + 1) (omega arith) (omega arith) ∙ d)))
+    truth-new k u g f s o (itself x y) (isTrue z) =
+        let m : truthPlace (variantPlace k u) g ≡ q = omega (arith, eqb-true g p z) in
+        ap (λ (j : ℕ). getD t′ j 0) m ∙ pair-first t q (h .words) (rows * 3) room
+    truth-new k u g f s o (itself x y) (isFalse z) = absurd (o (λ d. s (other-stays k u g x y (eqb-false g p z) .1 ∙ d)))
+
+    stays : (s : Slot) → HasListing t h s → startsIn t′ (moreWords h (rows * 3)) s ≡ startsIn t h s
+    stays reward x = refl
+    stays (weight k u) x = weight-stays k u (where-is k u (x .0) (x .1))
+    stays (truth k u g) x = truth-stays k u g (x .1) (x .4) (where-is k u (x .2) (x .3)) (flag (eqb g p))
+
+    new : (s : Slot) → HasListing t′ (moreWords h (rows * 3)) s → (HasListing t h s → ⊥) → startsIn t′ (moreWords h (rows * 3)) s ≡ h .words
+    new reward x o = absurd (o x)
+    new (weight k u) x o = absurd (o (x .0, omega (arith, variants-stay k (x .0), x .1)))
+    new (truth k u g) x o =
+        let y : u < variantsOf t k = omega (arith, variants-stay k (x .2), x .3) in
+        truth-new k u g (x .1) (x .4) (λ d. o (x .0, x .1, x .2, y, d)) (where-is k u (x .2) y) (flag (eqb g p))
+
+    starts-are : KeepsStarts t h t′ (moreWords h (rows * 3))
+    starts-are = record { stays = stays; new = new; none = λ z. refl }
+
   pub truth-added : {j : ℕ} → TruthPlaced t h p j → TruthAdded l t h p out rows l′ (set (set t j (h .words)) (j + 1) (rows * 3)) (moreWords h (rows * 3))
   truth-added s = subst (λ (x : ℕ). TruthAdded l t h p out rows l′ (set (set t x (h .words)) (x + 1) (rows * 3)) (moreWords h (rows * 3))) (sym (s .place)) (record {
     answer = refl;
@@ -327,4 +401,5 @@ module _ {l l′ t out : List ℕ} {h : Head} {rows p : ℕ} (r : RowsRoom l h o
         variants = all-listed (b .listed) g;
       };
     };
+    starts = λ ar z. starts-are (none-here v ar l z);
   })

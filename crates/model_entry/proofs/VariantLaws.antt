@@ -13,9 +13,11 @@ use Rattle.mdp.specs.Model.{Variant, Action, mostVariants}
 use Rattle.model.specs.declared.Head.{Head}
 use Rattle.model.specs.Layout.{part, spanWords, variantWords, actionWords, variantPlace, variantAt, variantsOf, actionAt, modelOf}
 use Rattle.session.specs.ModelLines.{addVariant}
-use Rattle.model_entry.specs.Building.{modelWith, truthPlace, SpannedVariant, SpannedAction, Canonical, ListedVariant, Listed, withActions, newVariant, RowsRoom, VariantRoom}
-use Rattle.model_entry.specs.Building.{VariantAdded, Cleared, newPlace, Opened, moreWords}
+use Rattle.model_entry.specs.Building.{modelWith, truthPlace, SpannedVariant, SpannedAction, Canonical, ListedVariant, Listed, withActions, newVariant}
+use Rattle.model_entry.specs.Adding.{RowsRoom, VariantRoom}
+use Rattle.model_entry.specs.Adding.{VariantAdded, Cleared, newPlace, Opened, moreWords}
 use Rattle.model_entry.specs.WordLaws.{Same, variantOf, actionOf, actionUse, part-under, truth-none, action-same, variant-same, spanned-variant, spanned-action, canonical-on, listed-variant}
+use Rattle.model_entry.proofs.StartLaws.{NewVariant, starts-kept}
 use Rattle.model_entry.proofs.AddLaws.{snoc, below-action, Appended, appended}
 
 -- ===== Clearing =====
@@ -202,6 +204,29 @@ module _ {l l′ t t′ out : List ℕ} {h : Head} {rows : ℕ} (r : RowsRoom l 
       let g : u < variantsOf t′ (h .actions - 1) = subst (λ (x : ℕ). u < variantsOf t′ x) (sym m) z in
       subst (λ (x : ℕ). ListedVariant l′ t′ (variantPlace x u)) m (variant-listed b i u (omega (arith, o .more, g))))
 
+  -- ===== Where listings begin =====
+
+  old-same : (k u : ℕ) → k < h .actions → u < variantsOf t k → Same t t′ (variantPlace k u) variantWords
+  old-same k u q z = by-low (Same t t′ (variantPlace k u) variantWords) (h .actions - 1) k
+      (λ y j f d. earlier k y j (omega arith) (omega (arith, z)))
+      (λ y.
+      let m : h .actions - 1 ≡ k = omega arith in
+      subst (λ (x : ℕ). Same t t′ (variantPlace x u) variantWords) m (earlier-variant u (subst (λ (x : ℕ). u < variantsOf t x) (sym m) z)))
+
+  last-new : NewVariant t′ (h .words) (newPlace t (h .actions - 1))
+  last-new = record { begins = o .begins; none = λ q y. o .zeros (truthPlace (newPlace t (h .actions - 1)) q + 1) (omega arith) (omega arith) }
+
+  new-here : (k u : ℕ) → k < h .actions → u < variantsOf t′ k → (k < h .actions → u < variantsOf t k → ⊥) → NewVariant t′ (h .words) (variantPlace k u)
+  new-here k u q z n = by-low (NewVariant t′ (h .words) (variantPlace k u)) (h .actions - 1) k
+      (λ y. absurd (n q (omega (arith, earlier k y (k * actionWords + 1) (omega arith) (omega arith), z))))
+      (λ y.
+      let m : h .actions - 1 ≡ k = omega arith in
+      let g : u < variantsOf t′ (h .actions - 1) = subst (λ (x : ℕ). u < variantsOf t′ x) (sym m) z in
+      let d : variantsOf t (h .actions - 1) ≤ u = subst (λ (x : ℕ). variantsOf t x ≤ u) (sym m) (by-low (variantsOf t k ≤ u) (variantsOf t k) u (λ s. absurd (n q s)) (λ s. s)) in
+      let e : variantsOf t (h .actions - 1) ≡ u = omega (arith, o .more, g, d) in
+      subst (λ (x : ℕ). NewVariant t′ (h .words) (variantPlace x u)) m
+      (subst (λ (x : ℕ). NewVariant t′ (h .words) (variantPlace (h .actions - 1) x)) e last-new))
+
   pub variant-added : VariantAdded l t h out rows l′ t′ (moreWords h (rows * 3))
   variant-added = record {
     answer = refl;
@@ -221,4 +246,5 @@ module _ {l l′ t t′ out : List ℕ} {h : Head} {rows : ℕ} (r : RowsRoom l 
         variants = all-listed (b .listed) i;
       };
     };
+    starts = starts-kept t t′ h (moreWords h (rows * 3)) refl refl old-same new-here;
   }

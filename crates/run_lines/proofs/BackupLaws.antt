@@ -30,6 +30,7 @@ use Rattle.planner.specs.Run.{heldIn}
 use Rattle.planner.proofs.HeldLaws.{backup-holds}
 use Rattle.memory.specs.declared.Numbers.{Numbers}
 use Rattle.memory.specs.Memory.{Memory, sessionOf, Ready, Answers}
+use Rattle.memory.specs.CarriedLaws.{carried-same, carried-run}
 use Rattle.memory.specs.RunLaws.{in-run, run-holding}
 use Rattle.run_lines.specs.Lines.{runningWith, BackupTask, BackupAnswered}
 use Rattle.run_lines.proofs.HoldLaws.{withValue, running-stored}
@@ -102,6 +103,7 @@ module _ {s : List ℕ} (number : ℕ) {n : Numbers} {w : Memory} (r : Ready K.B
           power = h .power;
         });
         indexed = r .indexed;
+        carried = carried-run refl refl;
       }
 
   stops-answers : {x : Refusal} → q ≡ Refused x → Answers K.Backup s number n w (record { numbers = n; answer = A.Refused x number }) (withValue w value)
@@ -109,7 +111,7 @@ module _ {s : List ℕ} (number : ℕ) {n : Numbers} {w : Memory} (r : Ready K.B
   stops-answers {x} e =
       let z = stopped (sessionOf n w) number H P (backup M (n .held .steps) (H .diagram)) (sym (b .answer) ∙ e) in
       subst (λ (v : List ℕ). Answers K.Backup s number n w (record { numbers = n; answer = A.Refused x number }) (withValue w v)) (sym (b .words ∙ z .words (w .value)))
-      (record { answer = z .answer; session = z .session; stored = r .stored; indexed = r .indexed })
+      (record { answer = z .answer; session = z .session; stored = r .stored; indexed = r .indexed; carried = carried-same n w })
 
 module _ {number : ℕ} {n : Numbers} {ar listings table value work : List ℕ} (t : BackupTask n ar listings table value work) {q : Backed} {value′ : List ℕ}
     (b : BackedUp ar (modelOf ar listings table (n .head)) (n .held .steps) (diagramOf (take (n .held .rows * 3) value)) q value value′) where

@@ -19,6 +19,7 @@ use Rattle.planner.specs.declared.Held.{Held}
 use Rattle.planner.specs.Run.{heldIn, Replaced}
 use Rattle.memory.specs.declared.Numbers.{Numbers}
 use Rattle.memory.specs.Memory.{Memory, sessionOf, Ready, Answers}
+use Rattle.memory.specs.CarriedLaws.{carried-same, carried-run}
 use Rattle.memory.specs.RunLaws.{in-run}
 use Rattle.run_lines.specs.Lines.{runningWith, CutAnswered}
 use Rattle.run_lines.proofs.HoldLaws.{withValue, replaced-stored}
@@ -49,13 +50,14 @@ module _ {s : List ℕ} (number : ℕ) {n : Numbers} {w : Memory} (r : Ready K.C
         session = ap₂ (withHeld (sessionOf n w)) (sym (in-run refl r)) (c .is) ∙ ap (λ (x : Reply). x .session) y;
         stored = replaced-stored refl r c l;
         indexed = r .indexed;
+        carried = carried-run refl refl;
       }
 
   stays-answers : {x : Refusal} → q ≡ Refused x → Answers K.Cut s number n w (record { numbers = n; answer = A.Refused x number }) w
   unfolding sessionOf done
   stays-answers d =
       let y = sym (ap (cutSays (sessionOf n w) number) (cut-refused (w .arities) (heldIn (n .held) (w .value)) (sym a ∙ d))) in
-      record { answer = ap (λ (x : Reply). x .answer) y; session = ap (λ (x : Reply). x .session) y; stored = r .stored; indexed = r .indexed }
+      record { answer = ap (λ (x : Reply). x .answer) y; session = ap (λ (x : Reply). x .session) y; stored = r .stored; indexed = r .indexed; carried = carried-same n w }
 
 module _ {number : ℕ} {n : Numbers} {ar value : List ℕ} {q : Cut} (a : q ≡ diagramAnswer ar (diagramOf (take (n .held .rows * 3) value))) where
   pub cut-left : {k : ℕ} {e : Edge} {m : ℕ} → q ≡ Done k e m → {h : Held} {value′ : List ℕ}

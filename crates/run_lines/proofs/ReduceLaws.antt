@@ -30,6 +30,7 @@ use Rattle.planner.specs.declared.Held.{Held}
 use Rattle.planner.specs.Run.{heldIn, ReplaceTask, Replaced}
 use Rattle.memory.specs.declared.Numbers.{Numbers}
 use Rattle.memory.specs.Memory.{Memory, sessionOf, Ready, Answers}
+use Rattle.memory.specs.CarriedLaws.{carried-same, carried-run}
 use Rattle.memory.specs.RunLaws.{in-run}
 use Rattle.run_lines.specs.Lines.{runningWith, ReduceAnswered}
 use Rattle.run_lines.proofs.HoldLaws.{withValue, replaced-stored}
@@ -110,13 +111,14 @@ module _ {s : List ℕ} (number : ℕ) {n : Numbers} {w : Memory} (r : Ready K.R
         session = ap₂ (withHeld σ) (sym (in-run refl r)) (c .is) ∙ left-session σ number H O (sym d ∙ a);
         stored = replaced-stored refl r c l;
         indexed = r .indexed;
+        carried = carried-run refl refl;
       }
 
   stays-answers : {x : Refusal} → q ≡ Refused x → Answers K.Reduce s number n w (record { numbers = n; answer = A.Refused x number }) w
   unfolding sessionOf done reduceLine
   stays-answers d =
       let σ = sessionOf n w in
-      record { answer = stays-says σ number H O (sym d ∙ a); session = stays-session σ number H O (sym d ∙ a); stored = r .stored; indexed = r .indexed }
+      record { answer = stays-says σ number H O (sym d ∙ a); session = stays-session σ number H O (sym d ∙ a); stored = r .stored; indexed = r .indexed; carried = carried-same n w }
 
 module _ {number : ℕ} {n : Numbers} {ar value : List ℕ} {q : Reduced} (a : q ≡ answerOf (reduceAnswer ar (diagramOf (take (n .held .rows * 3) value)))) where
   pub reduce-left : {m : ℕ} → q ≡ Done m → {h : Held} {value′ : List ℕ} → Replaced ar (n .held) value (reduceAnswer ar (diagramOf (take (n .held .rows * 3) value))) h value′

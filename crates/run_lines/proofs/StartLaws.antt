@@ -24,6 +24,7 @@ use Rattle.weights.specs.declared.Weighed.the-variants.{Done, Refused}
 use Rattle.weights.specs.Weighing.{weighedAs, Weighable}
 use Rattle.memory.specs.declared.Numbers.{Numbers}
 use Rattle.memory.specs.Memory.{Memory, sessionOf, Ready, Answers}
+use Rattle.memory.specs.CarriedLaws.{carried-same, carried-run}
 use Rattle.memory.specs.StoredLaws.{stored-reward}
 use Rattle.run_lines.specs.Lines.{runningWith, StartTask, StartAnswered}
 use Rattle.run_lines.specs.ReadyLaws.{start-reward}
@@ -93,13 +94,14 @@ module _ {s : List ℕ} (number : ℕ) {n : Numbers} {w : Memory} (r : Ready K.S
           power = h .power;
         });
         indexed = r .indexed;
+        carried = carried-run refl refl;
       }
 
   fails-answers : {x : Refusal} → q ≡ Refused x → Answers K.Start s number n w (record { numbers = n; answer = A.Refused x number }) w
   unfolding sessionOf done startLine modelOf
   fails-answers e =
       let p = failed (sessionOf n w) T number O (sym a ∙ e) in
-      record { answer = p .0; session = p .1; stored = r .stored; indexed = r .indexed }
+      record { answer = p .0; session = p .1; stored = r .stored; indexed = r .indexed; carried = carried-same n w }
 
 module _ {number : ℕ} {n : Numbers} {ar listings table value work : List ℕ} (t : StartTask n ar listings table value work) {q : Weighed}
     (a : q ≡ weighedAs (weighed ar (n .head .total) (modelOf ar listings table (n .head) .actions))) where

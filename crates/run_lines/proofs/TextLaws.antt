@@ -21,6 +21,7 @@ use Rattle.session.specs.Running.{formRead}
 use Rattle.session.specs.Replies.{textSays, done}
 use Rattle.memory.specs.declared.Numbers.{Numbers}
 use Rattle.memory.specs.Memory.{Memory, sessionOf, Ready, Answers}
+use Rattle.memory.specs.CarriedLaws.{carried-same}
 use Rattle.run_lines.specs.Lines.{TextTask, TextAnswered}
 
 -- the rows that are lent are there
@@ -59,6 +60,7 @@ module _ {s : List ℕ} (number : ℕ) {n : Numbers} {w : Memory} (r : Ready K.T
     session = same-session (sessionOf n w) number (formLength (w .arities) T D) (isTooLong (w .arities) T D);
     stored = r .stored;
     indexed = r .indexed;
+    carried = carried-same n w;
   }
 
   long-answers : q ≡ TooLong → Answers K.Text s number n w (record { numbers = n; answer = A.Refused Length number }) w
@@ -68,6 +70,7 @@ module _ {s : List ℕ} (number : ℕ) {n : Numbers} {w : Memory} (r : Ready K.T
     session = same-session (sessionOf n w) number (formLength (w .arities) T D) (isTooLong (w .arities) T D);
     stored = r .stored;
     indexed = r .indexed;
+    carried = carried-same n w;
   }
 
 module _ {number : ℕ} {n : Numbers} {names ar value : List ℕ} {q : Measured}

@@ -32,6 +32,7 @@ use Rattle.facts.specs.Words.{factsBase, indexBase, indexWords, part, liveOf}
 use Rattle.facts.specs.WordLaws.{index-all}
 use Rattle.memory.specs.declared.Numbers.{Numbers}
 use Rattle.memory.specs.Memory.{Memory, sessionOf, Ready, Answers}
+use Rattle.memory.specs.CarriedLaws.{carried-same}
 use Rattle.memory.specs.RunLaws.{run-holding}
 use Rattle.run_lines.specs.Lines.{ValueTask, ValueAnswered}
 
@@ -111,11 +112,18 @@ module _ {s : List ℕ} (number : ℕ) {n : Numbers} {w : Memory} (r : Ready K.V
     session = same-session (sessionOf n w) number O;
     stored = r .stored;
     indexed = r .indexed;
+    carried = carried-same n w;
   }
 
   unread-answers : {x : Refusal} → q ≡ Refused x → Answers K.Value s number n w (record { numbers = n; answer = A.Refused x number }) w
   unfolding sessionOf done
-  unread-answers e = record { answer = unread-answer (sessionOf n w) number O (sym a ∙ e); session = same-session (sessionOf n w) number O; stored = r .stored; indexed = r .indexed }
+  unread-answers e = record {
+    answer = unread-answer (sessionOf n w) number O (sym a ∙ e);
+    session = same-session (sessionOf n w) number O;
+    stored = r .stored;
+    indexed = r .indexed;
+    carried = carried-same n w;
+  }
 
 module _ {number : ℕ} {n : Numbers} {ar state value ps : List ℕ} (f : ps ≡ part state factsBase (n .live .facts * factWords)) {q : Valued}
     (a : q ≡ boundAnswer ar (take (n .held .rows * 3) value) (n .live .objects) (take constantCount state) ps []) where

@@ -26,6 +26,7 @@ use Rattle.memory.specs.declared.Numbers.{Numbers}
 use Rattle.memory.specs.Memory.{memoryOf, sessionOf, Ready, Answers, withState}
 use Rattle.memory.specs.StoredLaws.{stored-state}
 use Rattle.memory.specs.WordLaws.{first-is, second-is, rest-is}
+use Rattle.memory.specs.CarriedLaws.{carried-on}
 use Rattle.memory.specs.QuietLaws.{quiet-refused, quiet-done}
 use Rattle.state_lines.specs.Lines.{ObjectsSays, IsSays, TrueSays}
 
@@ -38,7 +39,8 @@ module _ {k : Kind} {s : List ℕ} {number : ℕ} {n : Numbers} {names ar ls tb 
   lives-done : (st′ : List ℕ) (l : Live) → Lives ar o st (Done l) st′
       → Answers k s number n (memoryOf names ar ls tb st v) (record { numbers = withState n l; answer = Nothing }) (memoryOf names ar ls tb st′ v)
   unfolding sessionOf
-  lives-done st′ l h = quiet-done (withLive (sessionOf n (memoryOf names ar ls tb st v))) o e (h .0) refl (stored-state st′ l (r .stored) (h .1)) (h .2)
+  lives-done st′ l h =
+      quiet-done (withLive (sessionOf n (memoryOf names ar ls tb st v))) o e (h .0) refl (stored-state st′ l (r .stored) (h .1)) (h .2) (carried-on refl refl refl)
 
   lives-refused : {why : Refusal} {st′ : List ℕ} → Lives ar o st (Refused why) st′
       → Answers k s number n (memoryOf names ar ls tb st v) (record { numbers = n; answer = RefusedAs why number }) (memoryOf names ar ls tb st′ v)

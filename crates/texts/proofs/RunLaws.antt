@@ -101,10 +101,10 @@ take-on block a b c h l =
     ∙ ap (λ (s : List ℕ). take (b - a) (drop a block) ++ take (c - b) s) (drop-drop (b - a) a block ∙ ap (λ (n : ℕ). drop n block) m)
 
 -- where the next line ends
-record There (block : List ℕ) (r : Answered) (free room e : ℕ) : Type 0 where
-  full : r .full ≡ false
-  has-room : r .position .end + free ≤ room
-  is : e ≡ r .at + lineLength (drop (r .at) block)
+pub record There (block : List ℕ) (r : Answered) (free room e : ℕ) : Type 0 where
+  pub full : r .full ≡ false
+  pub has-room : r .position .end + free ≤ room
+  pub is : e ≡ r .at + lineLength (drop (r .at) block)
 
 next-there : (block : List ℕ) (r : Answered) (free room : ℕ) {e : ℕ} → e ≡ nextEnd block r free room → e < length block → There block r free room e
 unfolding nextEnd
@@ -122,7 +122,7 @@ next-inside {block} {from} {free} {q} {x} {out₀} {r} a i h = omega (arith, nex
 
 module _ {block : List ℕ} {from free : ℕ} {q : Progress} {x : Whole} {out₀ : List ℕ} {r : Answered} {w : Memory} {out : List ℕ}
     (a : Answering block from free q x out₀ r w out) where
-  here-long : length (progressOf (r .position) w out .bytes) ≡ r .position .end
+  pub here-long : length (progressOf (r .position) w out .bytes) ≡ r .position .end
   unfolding progressOf
   here-long = length-take-le (r .position .end) out (a .going .within)
 
@@ -168,10 +168,10 @@ module _ {block : List ℕ} {from free : ℕ} {q : Progress} {x : Whole} {out₀
           ∙ ap (λ (f : Bool). record { progress = progressOf (r .position) w out; left = linesOf (drop (r .at) block) .whole; full = f }) (sym p)
 
   module _ {e : ℕ} (i : e ≡ nextEnd block r free (length out₀)) (h : e < length block) where
-    there : There block r free (length out₀) e
+    pub there : There block r free (length out₀) e
     there = next-there block r free (length out₀) i h
 
-    split : linesOf (drop (r .at) block) ≡ behindLine (take (e - r .at) (drop (r .at) block)) (linesOf (drop (e + 1) block))
+    pub split : linesOf (drop (r .at) block) ≡ behindLine (take (e - r .at) (drop (r .at) block)) (linesOf (drop (e + 1) block))
     split = first-line block (r .at) e (omega (arith, there .is)) (there .is) h
 
     abbrev Next : Bool → Whole

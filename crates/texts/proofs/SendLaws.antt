@@ -120,4 +120,5 @@ module _ {s : List ℕ} {number : ℕ} {n : Numbers} {w : Memory} (good : Kept n
     kept = x .kept;
     placed = subst (λ (b : List ℕ). Placed out place b put out′) (sym sent-bytes) (p .0);
     short = omega (arith, ap length sent-bytes, p .1);
+    carried = x .carried;
   }

@@ -11,3 +11,4 @@ pub mod RunningLaws
 pub mod ShowLaws
 pub mod StreamLaws
 pub mod WholeLaws
+pub mod StartLaws

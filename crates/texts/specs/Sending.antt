@@ -7,16 +7,17 @@ use Rattle.answers.specs.Writing.{mostBytes, Placed}
 use Rattle.session.specs.Replies.{reply}
 use Rattle.session.specs.Texts.{Progress, replyBytes, beginning}
 use Rattle.memory.specs.declared.Numbers.{Numbers}
-use Rattle.memory.specs.Memory.{Memory, memoryOf, sessionOf, Kept, Rooms}
+use Rattle.memory.specs.Memory.{Memory, memoryOf, sessionOf, Carried, Kept, Rooms}
 use Rattle.texts.specs.declared.Sent.{Sent}
 use Rattle.texts.specs.declared.Position.{Position}
 
--- the session behind the line, and the answer's bytes put at a place, if there is room; one reply fits mostBytes
+-- the session behind the line and what is carried over, and the answer's bytes put at a place, if there is room; one reply fits mostBytes
 pub record Sends (s : List ℕ) (number : ℕ) (n : Numbers) (w : Memory) (out : List ℕ) (place : ℕ) (r : Sent) (w′ : Memory) (out′ : List ℕ) : Type 0 where
   pub session : sessionOf (r .numbers) w′ ≡ reply (sessionOf n w) number s .session
   pub kept : Kept (r .numbers) w′
   pub placed : Placed out place (replyBytes (reply (sessionOf n w) number s)) (r .put) out′
   pub short : length (replyBytes (reply (sessionOf n w) number s)) ≤ mostBytes
+  pub carried : Carried n w (r .numbers) w′
 
 -- the lines that a number counts
 abbrev pub mostLines : ℕ

@@ -8,9 +8,11 @@ use lib.Dec.{leb}
 use Rattle.answers.specs.declared.Put.{Put}
 use Rattle.answers.specs.declared.Put.the-variants.{At, Full}
 use Rattle.answers.specs.Writing.{mostBytes}
+use Rattle.session.specs.declared.Part.the-variants.{Model}
 use Rattle.session.specs.Texts.{linesOf, Progress, afterLine}
+use Rattle.model_entry.specs.Starts.{Slot, hasStart, SlotStarts, startsBehind}
 use Rattle.memory.specs.declared.Numbers.{Numbers}
-use Rattle.memory.specs.Memory.{Memory, workWords}
+use Rattle.memory.specs.Memory.{Memory, sessionOf, startsOf, workWords}
 use Rattle.texts.specs.declared.Position.{Position}
 use Rattle.texts.specs.declared.Answered.{Answered}
 use Rattle.texts.specs.Ends.{lineLength}
@@ -37,6 +39,17 @@ wholeFrom free room p (l ∷ ls) =
     (cond (fits room (afterLine p l .bytes)) (wholeFrom free room (afterLine p l) ls) (record { progress = unwritten p l; left = l ∷ ls; full = true }))
     (record { progress = p; left = l ∷ ls; full = false })
 
+-- where the model's listings begin behind the lines that have their reply, written or not
+unfoldable pub startsFrom : ℕ → ℕ → Progress → List (List ℕ) → SlotStarts → SlotStarts
+unfolding afterLine startsBehind
+startsFrom free room p [] at = at
+startsFrom free room p (l ∷ ls) at =
+    cond (leb (length (p .bytes) + free) room)
+    (cond (fits room (afterLine p l .bytes))
+    (startsFrom free room (afterLine p l) ls (startsBehind (p .session) (afterLine p l .session) at))
+    (startsBehind (p .session) (afterLine p l .session) at))
+    at
+
 -- what answering a block from a place on relies on
 pub record Answerable (block : List ℕ) (from : ℕ) (p : Position) (w : Memory) (work out : List ℕ) : Type 0 where
   pub inside : from ≤ length block
@@ -57,6 +70,12 @@ pub record Reaches (block : List ℕ) (from free : ℕ) (q : Progress) (x : Whol
   pub bytes : r .full ≡ false → onBytes (fresh q) (take (r .at - from) (drop from block)) ≡ fresh (progressOf (r .position) w out′)
   pub lines : r .position .lines + (length block - r .at) ≤ q .lines + (length block - from)
   pub behind : drop (r .position .end) out′ ≡ drop (r .position .end) out
+
+-- where listings begin behind the lines that are answered; before the run, the numbers of the value, which is none yet, stay
+pub record CarriedOver (block : List ℕ) (from free : ℕ) (q : Progress) (first : Position) (w : Memory) (out : List ℕ) (r : Answered) (w′ : Memory) : Type 0 where
+  pub starts : (s : Slot) → hasStart (sessionOf (r .position .numbers) w′) s ≡ true
+      → startsOf (r .position .numbers) w′ s ≡ startsFrom free (length out) q (linesOf (drop from block) .whole) (startsOf (first .numbers) w) s
+  pub idle : r .position .numbers .part ≡ Model → r .position .numbers .held ≡ first .numbers .held
 
 -- what the whole lines of a block from a place on are answered
 abbrev pub wholeOf : List ℕ → ℕ → ℕ → Progress → List ℕ → Whole

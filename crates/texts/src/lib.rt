@@ -15,7 +15,7 @@ ghost use Rattle.answers.specs.declared.Answer.the-variants.{Refused};
 ghost use Rattle.answers.specs.Answers.{answerLine};
 ghost use Rattle.answers.specs.Writing.{mostBytes, Placed};
 ghost use Rattle.session.specs.Texts.{hasBytes, unfinished};
-ghost use Rattle.memory.specs.Memory.{Memory, memoryOf, Kept, Rooms, workWords};
+ghost use Rattle.memory.specs.Memory.{Memory, memoryOf, Carried, Kept, Rooms, workWords};
 ghost use Rattle.label.specs.Limits.{predicateCount};
 ghost use Rattle.facts.specs.Words.{stateWords};
 ghost use Rattle.texts.specs.Ends.{lineLength};
@@ -24,7 +24,7 @@ ghost use Rattle.texts.specs.Streaming.{restBy, Keeps};
 ghost use Rattle.spelling.specs.Spelling.{formLine};
 ghost use Rattle.texts.specs.Putting.{tablesIn, valueIn, answerIn, Form, Puttable};
 ghost use Rattle.texts.specs.Sending.{Sends, mostLines, progressOf, Going, Starts};
-ghost use Rattle.texts.specs.Whole.{Answerable, Reaches, wholeOf, nextEnd, behindReply, Steps, Ending};
+ghost use Rattle.texts.specs.Whole.{Answerable, Reaches, CarriedOver, wholeOf, nextEnd, behindReply, Steps, Ending};
 
 // Words of working space for a session.
 pub const WORK_WORDS: usize = diagram::SPACE_WORDS;
@@ -230,6 +230,7 @@ fn next_line(
     requires { ⌜ r .position .lines < mostLines ⌝ }
     requires { ⌜ workWords ≤ length (now work) ⌝ }
     ensures { λ a. ⌜ Steps (now (line .entry)) next r (progressOf (r .position) (memoryOf (now (names .entry)) (now (arities .entry)) (now (listings .entry)) (now (table .entry)) (now (state .entry)) (now (value .entry))) (now (out .entry))) (now (out .entry)) a (memoryOf (now (names .exit)) (now (arities .exit)) (now (listings .exit)) (now (table .exit)) (now (state .exit)) (now (value .exit))) (now (out .exit)) ⌝ }
+    ensures { λ a. ⌜ Carried (r .position .numbers) (memoryOf (now (names .entry)) (now (arities .entry)) (now (listings .entry)) (now (table .entry)) (now (state .entry)) (now (value .entry))) (a .position .numbers) (memoryOf (now (names .exit)) (now (arities .exit)) (now (listings .exit)) (now (table .exit)) (now (state .exit)) (now (value .exit))) ⌝ }
 {
     let p = r.position;
     let number = p.lines + 1;
@@ -284,6 +285,7 @@ pub fn answer_whole(
 ) -> Answered
     requires { ⌜ Answerable (now block) from first (memoryOf (now names) (now arities) (now listings) (now table) (now state) (now value)) (now work) (now out) ⌝ }
     ensures { λ r. ⌜ Reaches (now (block .entry)) from free (progressOf first (memoryOf (now (names .entry)) (now (arities .entry)) (now (listings .entry)) (now (table .entry)) (now (state .entry)) (now (value .entry))) (now (out .entry))) (wholeOf (now (block .entry)) from free (progressOf first (memoryOf (now (names .entry)) (now (arities .entry)) (now (listings .entry)) (now (table .entry)) (now (state .entry)) (now (value .entry))) (now (out .entry))) (now (out .entry))) (now (out .entry)) r (memoryOf (now (names .exit)) (now (arities .exit)) (now (listings .exit)) (now (table .exit)) (now (state .exit)) (now (value .exit))) (now (out .exit)) ⌝ }
+    ensures { λ r. ⌜ CarriedOver (now (block .entry)) from free (progressOf first (memoryOf (now (names .entry)) (now (arities .entry)) (now (listings .entry)) (now (table .entry)) (now (state .entry)) (now (value .entry))) (now (out .entry))) first (memoryOf (now (names .entry)) (now (arities .entry)) (now (listings .entry)) (now (table .entry)) (now (state .entry)) (now (value .entry))) (now (out .entry)) r (memoryOf (now (names .exit)) (now (arities .exit)) (now (listings .exit)) (now (table .exit)) (now (state .exit)) (now (value .exit))) ⌝ }
 {
     let room = out.len();
     let mut r = Answered {

@@ -1,7 +1,7 @@
 use Rattle.diagram_lines.proofs.RewardLaws.{reward-drawable, reward-reads}
 use mathlib.Core.Path.{refl}
 use lib.Dec.{lit≤}
-use Rattle.reading.specs.Callers.{variableWords}
+use Rattle.reader.specs.Callers.{variableWords}
 use borrow.Author.Needs.{needs}
 use Rattle.diagram_lines.proofs.read_reward.Statement.{statement}
 use Rattle.diagram_lines.proofs.read_reward.Tie as tie

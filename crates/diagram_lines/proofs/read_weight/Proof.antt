@@ -1,6 +1,6 @@
 use Rattle.diagram_lines.proofs.VariantLaws.{weight-known, weight-drawable, weight-reads}
 use lib.Dec.{lit≤}
-use Rattle.reading.specs.Callers.{variableWords}
+use Rattle.reader.specs.Callers.{variableWords}
 use borrow.Author.Needs.{needs}
 use Rattle.diagram_lines.proofs.read_weight.Statement.{statement}
 use Rattle.diagram_lines.proofs.read_weight.Tie as tie

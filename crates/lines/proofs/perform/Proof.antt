@@ -1,4 +1,4 @@
-use Rattle.lines.proofs.KindLaws.{told-model, told-run}
+use Rattle.lines.proofs.KindLaws.{told-model, told-change, told-ask}
 use Rattle.lines.proofs.AnswerLaws.{ready-as, model-ready, objects-answers, is-answers, tell-answers, value-answers, bad-answers}
 use Rattle.run_lines.specs.ReadyLaws.{value-task}
 use Rattle.state_lines.specs.LineLaws.{for-objects, for-is, for-true}
@@ -42,7 +42,13 @@ perform-run-requires : tie.Need-perform-run-requires
 perform-run-requires c κs =
     let arm = c .before .before .before .before .before .before .before in
     let start = arm .before .before .before .before .before .before .before .before .before in
-    (told-run (start .args .kind) (arm .match .keys7), start .pre)
+    (told-change (start .args .kind) (arm .match .keys6), start .pre)
+
+perform-run-requires-2 : tie.Need-perform-run-requires-2
+perform-run-requires-2 c κs =
+    let arm = c .before .before .before .before .before .before .before in
+    let start = arm .before .before .before .before .before .before .before .before .before in
+    (told-ask (start .args .kind) (arm .match .keys8), start .pre)
 
 -- What each has left: `call` is where it was called.
 
@@ -81,20 +87,24 @@ returns-5 c =
     call .perform-model .ensures .says _ _ (start .0)
 
 returns-6 : tie.Need-returns-6
-returns-6 c =
+returns-6 c = c .before .before .before .before .before .before .perform-run .ensures
+
+returns-7 : tie.Need-returns-7
+returns-7 c =
     let told = c .before in
     let start = told .before .before .before .before .before .before .before .before .before .before .pre in
     bad-answers _ (start .0) (told .enum-told5 .given .1) (c .no-line .ensures)
 
-returns-7 : tie.Need-returns-7
-returns-7 c = c .before .before .before .before .before .before .perform-run .ensures
+returns-8 : tie.Need-returns-8
+returns-8 c = c .before .before .before .before .before .before .perform-run2 .ensures
 
 pub perform-spec : {M : Type 1} → statement M
 perform-spec =
     tie.close
     (tie.spec (λ c. search needs) objects-requires (λ c. search needs) is-requires (λ c. search needs) tell-requires (λ c. search needs) value-requires
-    perform-model-requires (λ c. search needs) (λ c κs. search needs) perform-run-requires (λ c. search needs) (λ c. search needs) returns (λ c. search needs)
-    (λ c. search needs) returns-2 (λ c. search needs) (λ c. search needs) (λ c. search needs) returns-3 (λ c. search needs) (λ c. search needs)
+    perform-model-requires perform-run-requires (λ c. search needs) (λ c κs. search needs) perform-run-requires-2 (λ c. search needs) (λ c. search needs) returns
+    (λ c. search needs) (λ c. search needs) returns-2 (λ c. search needs) (λ c. search needs) (λ c. search needs) returns-3 (λ c. search needs) (λ c. search needs)
     (λ c. search needs) (λ c. search needs) returns-4 (λ c. search needs) (λ c. search needs) (λ c. search needs) (λ c. search needs) (λ c. search needs)
-    returns-5 returns-6 (λ c. search needs) (λ c. search needs) (λ c. search needs) (λ c. search needs) (λ c. search needs) (λ c. search needs)
-    (λ c. search needs) returns-7)
+    returns-5 (λ c. search needs) (λ c. search needs) (λ c. search needs) (λ c. search needs) (λ c. search needs) (λ c. search needs) (λ c. search needs)
+    returns-6 returns-7 (λ c. search needs) (λ c. search needs) (λ c. search needs) (λ c. search needs) (λ c. search needs) (λ c. search needs)
+    (λ c. search needs) returns-8)

@@ -1,6 +1,6 @@
 use Prim.Native.Nat.{_-_, _≤_}
 use borrow.Author.Needs.{needs}
-use Rattle.model_entry.specs.Building.{Cleared}
+use Rattle.model_entry.specs.Adding.{Cleared}
 use Rattle.model_entry.proofs.VariantLaws.{clear-start, clear-room, clear-on, clear-end}
 use Rattle.model_entry.proofs.clear.Statement.{statement}
 use Rattle.model_entry.proofs.clear.Tie as tie

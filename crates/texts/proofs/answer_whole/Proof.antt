@@ -6,6 +6,7 @@ use Rattle.memory.specs.Memory.{memoryOf}
 use Rattle.texts.specs.Sending.{progressOf}
 use Rattle.texts.specs.Whole.{wholeOf, nextEnd}
 use Rattle.texts.proofs.RunLaws.{Lengths, lengths-same, Answering, answering-first, of-lines, answering-lines, next-inside, answering-next, end-later, answering-done}
+use Rattle.texts.proofs.CarriedLaws.{CarriedSoFar, standing-first, standing-done, standing-next}
 use Rattle.texts.proofs.answer_whole.Statement.{statement}
 use Rattle.texts.proofs.answer_whole.Tie as tie
 
@@ -15,6 +16,7 @@ Inv-loop block from free names₀ arities₀ listings₀ table₀ state₀ value
     (wholeOf block from free (progressOf (r₀ .position) (memoryOf names₀ arities₀ listings₀ table₀ state₀ value₀) out₀) out₀) out₀ r (memoryOf names arities listings table state value) out
     × Lengths (memoryOf names₀ arities₀ listings₀ table₀ state₀ value₀) work₀ (memoryOf names arities listings table state value) work
     × (end ≡ nextEnd block r free (length out₀))
+    × CarriedSoFar block from free (r₀ .position) (memoryOf names₀ arities₀ listings₀ table₀ state₀ value₀) out₀ r (memoryOf names arities listings table state value) out
 
 abbrev μ-loop : tie.MeasureT-loop
 μ-loop block from free names₀ arities₀ listings₀ table₀ state₀ value₀ work₀ out₀ room r₀ end₀ names arities listings table state value work out r end = length block - end
@@ -22,7 +24,7 @@ abbrev μ-loop : tie.MeasureT-loop
 loop-holds : tie.Need-loop-holds Inv-loop μ-loop
 loop-holds c =
     let s = c .before .before .before .before .before .before .before .before .before .before in
-    (answering-first (s .args .free) (s .pre), lengths-same _ _, c .next-end .ensures)
+    (answering-first (s .args .free) (s .pre), lengths-same _ _, c .next-end .ensures, standing-first _ _ _ _ _ _)
 
 next-line-requires : tie.Need-next-line-requires Inv-loop μ-loop
 next-line-requires c κs =
@@ -43,15 +45,15 @@ loop-less c =
     let l = m16 .before .before .before .before .before .before .before .before .before .before .before .before .loop .inv in
     let n = m16 .before .next-line in
     let t = m16 .before .before .before .before .before .before .before .before .before .before .before .loop-test .taken in
-    omega (arith, t, end-later (l .0) (l .2) t (n .ensures) (n .kept .1 .1 .1 .1 .1 .1 .1 .1 .1 .1 .0) (c .next-end2 .ensures))
+    omega (arith, t, end-later (l .0) (l .2) t (n .ensures .0) (n .kept .1 .1 .1 .1 .1 .1 .1 .1 .1 .1 .0) (c .next-end2 .ensures))
 
 loop-again : tie.Need-loop-again Inv-loop μ-loop
 loop-again c =
     let m16 = c .before .before .before .before .before .before .before .before .before .before .before .before .before .before .before .before in
     let l = m16 .before .before .before .before .before .before .before .before .before .before .before .before .loop .inv in
+    let t = m16 .before .before .before .before .before .before .before .before .before .before .before .loop-test .taken in
     let n = m16 .before .next-line in (
-      answering-next (l .0) (l .2) (m16 .before .before .before .before .before .before .before .before .before .before .before .loop-test .taken) (n .ensures)
-          (n .kept .1 .1 .1 .1 .1 .1 .1 .1 .1 .1 .0),
+      answering-next (l .0) (l .2) t (n .ensures .0) (n .kept .1 .1 .1 .1 .1 .1 .1 .1 .1 .1 .0),
       record {
         names = n .kept .1 .1 .1 .0 ∙ l .1 .names;
         arities = n .kept .1 .1 .1 .1 .0 ∙ l .1 .arities;
@@ -62,6 +64,7 @@ loop-again c =
         work-room = n .kept .1 .1 .1 .1 .1 .1 .1 .1 .1 .0 ∙ l .1 .work-room;
       },
       c .next-end2 .ensures,
+      standing-next (l .0) (l .3) (l .2) t (n .ensures .0) (n .kept .1 .1 .1 .1 .1 .1 .1 .1 .1 .1 .0) (n .ensures .1),
     )
 
 pub answer-whole-spec : {M : Type 1} → statement M
@@ -81,7 +84,7 @@ answer-whole-spec =
     let m16 = c .before .before .before .before .before .before .before .before .before .before .before .before .before .before .before .before in
     omega (
       arith,
-      m16 .next-line .ensures .going .within,
+      m16 .next-line .ensures .0 .going .within,
       m16 .next-line .kept .1 .1 .1 .1 .1 .1 .1 .1 .1 .1 .0,
       m16 .before .before .before .before .before .before .before .before .before .before .before .loop .inv .0 .long,
     ))
@@ -95,4 +98,6 @@ answer-whole-spec =
     (λ c. c .before .loop .inv .1 .value)
     (λ c. c .before .loop .inv .1 .work-room)
     (λ c. c .before .loop .inv .0 .long)
-    (λ c. answering-done (c .before .loop .inv .0) (c .before .loop .inv .2) (c .loop-test .left)))
+    (λ c.
+    let l = c .before .loop .inv in
+    (answering-done (l .0) (l .2) (c .loop-test .left), standing-done (l .0) (l .3) (l .2) (c .loop-test .left))))

@@ -19,7 +19,7 @@ end-behind-requires c κs =
     let s = m32 .before .before .before .before .before .before .before .before .before .before in
     let a = s .args in
     run-ending (m16 .before .before .before .before .before .before .before .before .before .before .before .before .before .before .begin .ensures .says (a .names .now)
-    (a .listings .now) (a .table .now) (a .value .now) (a .out .now) (s .pre .0)) (omega (arith, s .good)) (m16 .before .answer-whole .ensures)
+    (a .listings .now) (a .table .now) (a .value .now) (a .out .now) (s .pre .0)) (omega (arith, s .good)) (m16 .before .answer-whole .ensures .0)
 
 returns : tie.Need-returns
 returns c =
@@ -28,7 +28,7 @@ returns c =
     let s = m32 .before .before .before .before .before .before .before .before .before .before .before .before .before in
     let a = s .args in
     let x = m16 .before .before .before .before .answer-whole in
-    run-ends (m32 .before .begin .ensures .says (a .names .now) (a .listings .now) (a .table .now) (a .value .now) (a .out .now) (s .pre .0)) (x .ensures)
+    run-ends (m32 .before .begin .ensures .says (a .names .now) (a .listings .now) (a .table .now) (a .value .now) (a .out .now) (s .pre .0)) (x .ensures .0)
     (x .kept .1 .1 .1 .1 .1 .1 .1 .1 .1 .1 .1 .0) (c .before .before .end-behind .ensures)
 
 pub run-in-spec : {M : Type 1} → statement M

@@ -54,7 +54,7 @@ keep-rest-requires c κs =
     let m32 = m16 .before .before .before .before .before .before .before .before .before .before .before .before .before .before .before .before in
     let f = m32 .before .refill in
     let h = taken (m32 .before .before .before .before .loop .inv .0) (m32 .before .before .before .loop-test .taken) (f .ensures) (f .kept .1 .0) in
-    (omega (arith, m16 .before .before .before .before .before .answer-whole .ensures .inside, length-take-le (f .result .n) (f .last .1 .0) (h .1)), h .1)
+    (omega (arith, m16 .before .before .before .before .before .answer-whole .ensures .0 .inside, length-take-le (f .result .n) (f .last .1 .0) (h .1)), h .1)
 
 loop-less : tie.Need-loop-less Inv-loop μ-loop
 loop-less c =
@@ -66,7 +66,7 @@ loop-less c =
     let a = m16 .before .before .before .before .before .before .before .before .before .answer-whole in
     let k = c .before .before .before .keep-rest in
     let s = m48 .before .before .before .before .before .before .before .before .before .before .pre in
-    run-less (l .0) (m32 .before .before .before .before .before .before .before .loop-test .taken) (f .ensures) (f .kept .1 .0) (omega (arith, s .1 .1 .1, l .1 .buffer)) (a .ensures)
+    run-less (l .0) (m32 .before .before .before .before .before .before .before .loop-test .taken) (f .ensures) (f .kept .1 .0) (omega (arith, s .1 .1 .1, l .1 .buffer)) (a .ensures .0)
     (c .before .before .before .before .before .before .write .ensures) (k .ensures) (k .kept .0) (c .is-open .ensures)
 
 loop-again : tie.Need-loop-again Inv-loop μ-loop
@@ -80,7 +80,7 @@ loop-again c =
     let k = c .before .before .before .keep-rest in
     let s = m48 .before .before .before .before .before .before .before .before .before .before .pre in (
       run-next (l .0) (m32 .before .before .before .before .before .before .before .loop-test .taken) (f .ensures) (f .kept .1 .0) (omega (arith, s .1 .1 .1, l .1 .buffer))
-          (a .ensures) (c .before .before .before .before .before .before .write .ensures) (k .ensures) (k .kept .0) (c .before .before .before .before .before .emptied .ensures)
+          (a .ensures .0) (c .before .before .before .before .before .before .write .ensures) (k .ensures) (k .kept .0) (c .before .before .before .before .before .emptied .ensures)
           (c .is-open .ensures),
       record {
         names = a .kept .1 .1 .1 .1 .0 ∙ l .1 .names;
@@ -122,13 +122,13 @@ answer-input-spec =
           (c .before .before .before .refill .kept .1 .0)) .1),
     ))
     answer-whole-requires
-    (λ c. c .before .before .before .before .before .before .before .before .before .before .before .before .before .before .before .before .before .answer-whole .ensures .going .within)
+    (λ c. c .before .before .before .before .before .before .before .before .before .before .before .before .before .before .before .before .before .answer-whole .ensures .0 .going .within)
     (λ c.
     let m16 = c .before .before .before .before .before .before .before .before .before .before .before .before .before .before .before .before in
     omega (
       arith,
       length-take-le (m16 .before .before .answer-whole .result .position .end) (m16 .before .before .answer-whole .last .1 .1 .1 .1 .1 .1 .1 .1 .1 .1 .1 .0)
-          (m16 .before .before .answer-whole .ensures .going .within),
+          (m16 .before .before .answer-whole .ensures .0 .going .within),
     ))
     (λ c κs. search needs)
     (λ c κs. search needs)
