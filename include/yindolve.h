@@ -290,10 +290,11 @@ uint64_t yindolve_open(uint64_t *numbers, size_t numbers_count, uint64_t *aritie
  * and table, state, value diagram and numbers agree as every line keeps them. So a session may be written to a file, read again and go on (examples/save.c), whatever
  * happened to its bytes: the call answers by the session that they are, or LISTING. (Words that pass but were not left by lines may hold any good value diagram; then a
  * value is that diagram's, and not the Bellman value, (text) prints the bytes that its names hold, and (did ..) goes on from the count and total that its numbers hold.)
- * Words behind the numbers and bytes behind the answers stay. Within a table the words behind those in use are the session's working space.
+ * Words behind the numbers and bytes behind the answers stay. The model's listings stay where they are, and a new one stands behind all others; so what a call leaves in
+ * the words in use is fixed, word for word. Within a table the words behind those in use are the session's working space.
  * So is the index of the facts behind them in the state: a call makes it from the facts, whatever its words are, and its lines keep it.
  * Refused, in this order: LISTING where the memory is no session's, a table of another size among it, or its count of lines and the block's bytes together pass
- * 2^64 - 1; BUFFER where the working space or the buffer is smaller than above. Nothing is written then.
+ * 2^64 - 1; BUFFER where the working space or the buffer is smaller than above. Nothing else is done then.
  */
 uint64_t yindolve_lines(const uint8_t *block, size_t block_count, uint64_t *numbers, size_t numbers_count, uint64_t *names, size_t names_count, uint64_t *arities,
     size_t arities_count, uint64_t *listings, size_t listings_count, uint64_t *table, size_t table_count, uint64_t *state, size_t state_count, uint64_t *value,

@@ -22,7 +22,6 @@ use Rattle.answers.specs.declared.Put.{Put}
 use Rattle.answers.specs.declared.Put.the-variants.{At, Full}
 use Rattle.answers.specs.Writing.{mostBytes, putAnswer, putResult, Placed}
 use Rattle.session.specs.declared.Part.{Part}
-use Rattle.session.specs.declared.Part.the-variants.{Model, Run}
 use Rattle.session.specs.Session.{Session, opening}
 use Rattle.session.specs.Good.{GoodSession}
 use Rattle.session.specs.Replies.{withLive, reply}
@@ -30,10 +29,12 @@ use Rattle.session.specs.Texts.{hasBytes, linesOf, Progress, replyBytes, unfini
 use Rattle.facts.specs.Words.{stateWords, GoodLive, Remade}
 use Rattle.facts.specs.WordLaws.{reindexed-live}
 use Rattle.memory.specs.declared.Numbers.{Numbers}
-use Rattle.memory.specs.Memory.{Memory, memoryOf, sessionOf, IsSession, Kept, workWords}
+use Rattle.model_entry.specs.Starts.{Slot, hasStart, startsBehind, KeepsStarts}
+use Rattle.memory.specs.Memory.{Memory, memoryOf, sessionOf, startsOf, Stored, Carried, IsSession, Kept, workWords}
+use Rattle.memory.specs.SlotLaws.{carried-starts}
 use Rattle.memory.specs.StoredLaws.{stored-state}
-use Rattle.memory.specs.Saving.{numberWords, partWord, flagWord, savedWords, numbersAt, linesAt, metAt}
-use Rattle.memory.specs.SavingLaws.{saved-numbers, saved-lines, saved-met}
+use Rattle.memory.specs.Saving.{numberWords, savedWords, numbersAt, linesAt, metAt}
+use Rattle.memory.specs.SavingLaws.{saved-numbers}
 use Rattle.lines.specs.Lines.{Opened}
 use Rattle.texts.specs.declared.Sent.{Sent}
 use Rattle.answers.specs.Answers.{answerLine}
@@ -44,14 +45,14 @@ use Rattle.texts.specs.Running.{Filled, fits, allBytes, fillClosing, fillRest, 
 use Rattle.texts.specs.RunningLaws.{rest-none}
 use Rattle.texts.specs.declared.Answered.{Answered}
 use Rattle.texts.specs.Sending.{Sends, mostLines, progressOf}
-use Rattle.texts.specs.Whole.{Whole, wholeFrom, wholeOf, Answerable, Reaches}
+use Rattle.texts.specs.Whole.{Whole, wholeFrom, startsFrom, wholeOf, Answerable, Reaches, CarriedOver}
 use Rattle.restoring.specs.Restoring.{isSession}
 use Rattle.restoring.specs.KeptLaws.{session-is}
 use Rattle.checking.specs.DecisionLaws.{decided}
 use Rattle.checking.proofs.TestLaws.{stops, goes, refused, passed}
 use Rattle.c_library.specs.Answers.{roomNumber, entryNumber}
-use Rattle.c_library.specs.Sessions.{hasRoom, OpenOrLeft, Opens, hasRooms, isPlain, canAnswer, isOpen, progressAt, positionAt, putEnd, IsAnswered, IsUntouched, DoneOrLeft, Replies}
-use Rattle.c_library.specs.Sessions.{answeredLines, AreAnswered, AreUntouched, RepliesAll, canClose, closingAt, IsClosed, IsUnclosed, Closes}
+use Rattle.c_library.specs.Sessions.{hasRoom, OpenOrLeft, Opens, hasRooms, isPlain, canAnswer, isOpen, progressAt, positionAt, putEnd, IsAnswered, IsUntouched, DoneOrLeft, startsAfter, Replies}
+use Rattle.c_library.specs.Sessions.{answeredLines, answeredStarts, AreAnswered, AreUntouched, RepliesAll, canClose, closingAt, IsClosed, IsUnclosed, Closes}
 
 -- ===== Room =====
 
@@ -82,11 +83,6 @@ room-is n a s {b} q f =
 
 -- ===== Opening =====
 
--- the words behind what was stored stay
-saved-behind : (n : Numbers) (lines : ℕ) (met : Bool) (t : List ℕ) → drop numberWords (savedWords n lines met ++ t) ≡ t
-unfolding savedWords
-saved-behind n lines met t = refl
-
 module _ (numbers arities state : List ℕ) {b : Bool} (q : b ≡ hasRoom (length numbers) (length arities) (length state)) where
   pub open-left : {k : ℕ} → not b ≡ true → k ≡ numberOf Buffer → Opens numbers arities state k numbers arities state
   open-left f h = record {
@@ -112,9 +108,7 @@ module _ (numbers arities state : List ℕ) {b : Bool} (q : b ≡ hasRoom (lengt
                   let k = o .says names listings table value rooms .kept in
                   subst (λ (m : Numbers). isSession m (memoryOf names arities′ listings table state′ value) ≡ true) (sym z)
                   (decided (session-is n (memoryOf names arities′ listings table state′ value)) (record { stored = k .stored; good = k .good }));
-              lines = ap linesAt u ∙ saved-lines n 0 false (drop numberWords numbers);
-              met = ap metAt u ∙ saved-met n 0 false (drop numberWords numbers);
-              behind = ap (drop numberWords) u ∙ saved-behind n 0 false (drop numberWords numbers);
+              numbers-are = u ∙ ap (λ (m : Numbers). savedWords m 0 false ++ drop numberWords numbers) (o .numbers);
             });
       }
 
@@ -190,20 +184,6 @@ module _ (s : List ℕ) where
         pub plain-met : getD s 3 0 ≤ 1 → leb (getD s 25 0) 1 ≡ isPlain s
         plain-met d =
             goes (le-leb (getD s 0 0) 1 a) (goes (le-leb (getD s 1 0) 1 b) (goes (le-leb (getD s 2 0) 1 c) (goes (le-leb (getD s 3 0) 1 d) refl)))
-
-part-plain : (p : Part) → leb (partWord p) 1 ≡ true
-part-plain Model = refl
-part-plain Run = refl
-
-flag-plain : (b : Bool) → leb (flagWord b) 1 ≡ true
-flag-plain true = refl
-flag-plain false = refl
-
--- as a session's numbers are stored
-saved-plain : (n : Numbers) (lines : ℕ) (met : Bool) (t : List ℕ) → isPlain (savedWords n lines met ++ t) ≡ true
-unfolding savedWords
-saved-plain n lines met t =
-    sym (goes (part-plain (n .part)) (goes (flag-plain (n .total)) (goes (flag-plain (n .discount)) (goes (flag-plain (n .reward)) (sym (flag-plain met))))))
 
 module _ (numbers : List ℕ) (w : Memory) (more : ℕ) {a : Bool}
     (ea : a ≡ hasRooms (length numbers) (length (w .names)) (length (w .arities)) (length (w .listings)) (length (w .table)) (length (w .state)) (length (w .value))) where
@@ -291,7 +271,7 @@ pub line-refused : (line numbers : List ℕ) (w : Memory) (work answer : List �
     → (k ≡ 0 → ⊥) → Replies line numbers w work answer bytes k numbers w answer bytes
 line-refused line numbers w work answer {bytes} e f = record {
   number = e;
-  does = untouched numbers w work answer 1 e f (IsAnswered (afterLine (progressAt numbers w) line) numbers answer numbers w answer bytes)
+  does = untouched numbers w work answer 1 e f (IsAnswered (afterLine (progressAt numbers w) line) (startsAfter line numbers w) numbers answer numbers w answer bytes)
       (IsUntouched numbers w answer bytes numbers w answer bytes) (record { numbers-left = refl; memory-left = refl; answer-left = refl; bytes-left = refl });
 }
 
@@ -301,7 +281,7 @@ pub lines-refused : (block numbers : List ℕ) (w : Memory) (work answer : List 
 lines-refused block numbers w work answer {bytes} {read} e f = record {
   number = e;
   does = untouched numbers w work answer (length block) e f
-      (AreAnswered block (answeredLines block numbers w answer) numbers answer numbers w answer bytes read)
+      (AreAnswered block (answeredLines block numbers w answer) (answeredStarts block numbers w answer) numbers answer numbers w answer bytes read)
       (AreUntouched numbers w answer bytes read numbers w answer bytes read) (record {
         untouched = record { numbers-left = refl; memory-left = refl; answer-left = refl; bytes-left = refl };
         read-left = refl;
@@ -377,14 +357,29 @@ module _ {s answer answer′ : List ℕ} {r : Put} (g : mostBytes ≤ length ans
       ∙ ap₂ (λ (t : List ℕ) (n : ℕ). t ++ s ++ drop n answer) (take-none answer) (zero-add (length s))
 
 -- words that are one session are answered alike
-sent-as : {s out out′ : List ℕ} {number place : ℕ} {n : Numbers} {w v w′ : Memory} {r : Sent} → sessionOf n v ≡ sessionOf n w
+sent-as : {s out out′ : List ℕ} {number place : ℕ} {n : Numbers} {w v w′ : Memory} {r : Sent} → sessionOf n v ≡ sessionOf n w → v .table ≡ w .table
     → Sends s number n v out place r w′ out′ → Sends s number n w out place r w′ out′
-sent-as {s} {out} {out′} {number} {place} {r = r} e x = record {
+sent-as {s} {out} {out′} {number} {place} {n} {w} {v} {w′} {r} e t x = record {
   session = x .session ∙ ap (λ (σ : Session). reply σ number s .session) e;
   kept = x .kept;
   placed = subst (λ (σ : Session). Placed out place (replyBytes (reply σ number s)) (r .put) out′) e (x .placed);
   short = subst (λ (σ : Session). length (replyBytes (reply σ number s)) ≤ mostBytes) e (x .short);
+  carried = record {
+    starts = subst (λ (z : List ℕ). KeepsStarts z (n .head) (w′ .table) (r .numbers .head)) t (x .carried .starts);
+    idle = x .carried .idle;
+  };
 }
+
+-- the part of a session's numbers
+part-of : (n : Numbers) (w : Memory) {σ : Session} {p : Part} → sessionOf n w ≡ σ → σ .part ≡ p → n .part ≡ p
+unfolding sessionOf
+part-of n w e h = ap (λ (σ : Session). σ .part) e ∙ h
+
+-- where listings begin behind a line, by the session that it leads to
+behind-starts : {n n′ : Numbers} {w w′ : Memory} {σ : Session} → Stored n w → Stored n′ w′ → Carried n w n′ w′ → sessionOf n′ w′ ≡ σ
+    → (s : Slot) → hasStart σ s ≡ true → startsOf n′ w′ s ≡ startsBehind (sessionOf n w) σ (startsOf n w) s
+behind-starts {n} {n′} {w} {w′} a b c e s =
+    subst (λ (τ : Session). hasStart τ s ≡ true → startsOf n′ w′ s ≡ startsBehind (sessionOf n w) τ (startsOf n w) s) e (carried-starts a b c s)
 
 module _ (line : List ℕ) {numbers : List ℕ} {w : Memory} {work answer : List ℕ} (g : Given numbers w work answer 1) {k : ℕ}
     (en : k ≡ entryNumber (isOpen numbers w 1) (canAnswer work answer)) (z : k ≡ 0) where
@@ -399,19 +394,19 @@ module _ (line : List ℕ) {numbers : List ℕ} {w : Memory} {work answer : List
         let j : p .lines + 1 ≡ suc (linesAt numbers) = add-one (p .lines) ∙ ap (λ (q : Position). suc (q .lines)) ep in
         let y : Sends line (suc (linesAt numbers)) (numbersAt numbers) w answer 0 r w′ answer′ =
         subst (λ (o : Numbers). Sends line (suc (linesAt numbers)) o w answer 0 r w′ answer′) (ap (λ (q : Position). q .numbers) ep)
-        (subst (λ (i : ℕ). Sends line i (p .numbers) w answer 0 r w′ answer′) j (sent-as (same-session g ep made) x)) in
+        (subst (λ (i : ℕ). Sends line i (p .numbers) w answer 0 r w′ answer′) j (sent-as (same-session g ep made) refl x)) in
         let o : numbersAt numbers′ ≡ r .numbers = ap numbersAt u ∙ saved-numbers (r .numbers) (p .lines + 1) m t in
         record {
           number = sym z ∙ en;
           does = subst (λ (b : Bool). DoneOrLeft b
-              (IsAnswered (afterLine (progressAt numbers w) line) numbers answer numbers′ w′ answer′ bytes′)
+              (IsAnswered (afterLine (progressAt numbers w) line) (startsAfter line numbers w) numbers answer numbers′ w′ answer′ bytes′)
               (IsUntouched numbers w answer bytes numbers′ w′ answer′ bytes′)) (sym (g .both)) (record {
                 session = ap (λ (q : Numbers). sessionOf q w′) o ∙ y .session;
-                lines = ap linesAt u ∙ saved-lines (r .numbers) (p .lines + 1) m t ∙ j;
-                met = ap metAt u ∙ saved-met (r .numbers) (p .lines + 1) m t ∙ em ∙ ap (λ (q : Position). q .met || hasBytes line) ep;
-                plain = ap isPlain u ∙ saved-plain (r .numbers) (p .lines + 1) m t;
+                starts = λ t h. ap (λ (q : Numbers). startsOf q w′ t) o
+                    ∙ behind-starts (g .session .stored) (y .kept .stored) (y .carried) (y .session) t h;
+                idle = λ h. ap (λ (q : Numbers). q .held) o ∙ y .carried .idle (part-of (r .numbers) w′ (y .session) h) .1;
                 again = decided (session-is (numbersAt numbers′) w′) (subst (λ (q : Numbers). IsSession q w′) (sym o) (kept-session (y .kept)));
-                behind = ap (drop numberWords) u ∙ saved-behind (r .numbers) (p .lines + 1) m t;
+                saved = u ∙ (λ i. savedWords (sym o i) (j i) ((em ∙ ap (λ (q : Position). q .met || hasBytes line) ep) i) ++ t);
                 buffer = placed-buffer (g .answer-room) (y .short) (y .placed);
                 byte-count = v ∙ placed-end (g .answer-room) (y .short) (y .placed);
               });
@@ -437,7 +432,8 @@ progress-here numbers w answer =
 module _ {block numbers : List ℕ} {w : Memory} {work answer : List ℕ} (g : Given numbers w work answer (length block)) {k : ℕ}
     (en : k ≡ entryNumber (isOpen numbers w (length block)) (canAnswer work answer)) (z : k ≡ 0) {p : Position} (ep : p ≡ positionAt numbers)
     {state : List ℕ} (made : Remade (w .arities) (w .state) (p .numbers .live) state) {r : Answered} {w′ : Memory} {answer′ : List ℕ}
-    (reaches : Reaches block 0 mostBytes (progressOf p (withWords w state) answer) (wholeOf block 0 mostBytes (progressOf p (withWords w state) answer) answer) answer r w′ answer′) where
+    (reaches : Reaches block 0 mostBytes (progressOf p (withWords w state) answer) (wholeOf block 0 mostBytes (progressOf p (withWords w state) answer) answer) answer r w′ answer′)
+    (stands : CarriedOver block 0 mostBytes (progressOf p (withWords w state) answer) p (withWords w state) answer r w′) where
   abbrev x : Whole
   x = answeredLines block numbers w answer
 
@@ -456,6 +452,18 @@ module _ {block numbers : List ℕ} {w : Memory} {work answer : List ℕ} (g : G
   reached : progressOf (r .position) w′ answer′ ≡ x .progress
   reached = y .is ∙ ap (λ (t : Whole). t .progress) whole-here
 
+  here-same : progressOf p (withWords w state) answer ≡ progressAt numbers w
+  here-same = progress-same ∙ ap (λ (q : Position). progressOf q w answer) ep ∙ progress-here numbers w answer
+
+  session-reached : sessionOf (r .position .numbers) w′ ≡ x .progress .session
+  unfolding progressOf
+  session-reached = ap (λ (q : Progress). q .session) reached
+
+  starts-are : (s : Slot) → hasStart (x .progress .session) s ≡ true → startsOf (r .position .numbers) w′ s ≡ answeredStarts block numbers w answer s
+  starts-are s h =
+      stands .starts s (subst (λ (τ : Session). hasStart τ s ≡ true) (sym session-reached) h)
+      ∙ (λ i. startsFrom mostBytes (length answer) (here-same i) (linesOf block .whole) (startsOf (ep i .numbers) w) s)
+
   bytes-are : take (r .position .end) answer′ ≡ x .progress .bytes
   unfolding progressOf
   bytes-are = ap (λ (q : Progress). q .bytes) reached
@@ -473,17 +481,16 @@ module _ {block numbers : List ℕ} {w : Memory} {work answer : List ℕ} (g : G
     numbers-are : numbersAt numbers′ ≡ r .position .numbers
     numbers-are = ap numbersAt u ∙ saved-numbers (r .position .numbers) (r .position .lines) (r .position .met) (drop numberWords numbers)
 
-    answered : IsAnswered (x .progress) numbers answer numbers′ w′ answer′ (r .position .end)
+    answered : IsAnswered (x .progress) (answeredStarts block numbers w answer) numbers answer numbers′ w′ answer′ (r .position .end)
     unfolding progressOf
     answered =
         let t : List ℕ = drop numberWords numbers in
         record {
-          session = ap (λ (q : Numbers). sessionOf q w′) numbers-are ∙ ap (λ (q : Progress). q .session) reached;
-          lines = ap linesAt u ∙ saved-lines (r .position .numbers) (r .position .lines) (r .position .met) t ∙ ap (λ (q : Progress). q .lines) reached;
-          met = ap metAt u ∙ saved-met (r .position .numbers) (r .position .lines) (r .position .met) t ∙ ap (λ (q : Progress). q .met) reached;
-          plain = ap isPlain u ∙ saved-plain (r .position .numbers) (r .position .lines) (r .position .met) t;
+          session = ap (λ (q : Numbers). sessionOf q w′) numbers-are ∙ session-reached;
+          starts = λ t h. ap (λ (q : Numbers). startsOf q w′ t) numbers-are ∙ starts-are t h;
+          idle = λ h. ap (λ (q : Numbers). q .held) numbers-are ∙ stands .idle (part-of (r .position .numbers) w′ session-reached h) ∙ ap (λ (q : Position). q .numbers .held) ep;
           again = decided (session-is (numbersAt numbers′) w′) (subst (λ (q : Numbers). IsSession q w′) (sym numbers-are) (kept-session (y .going .kept)));
-          behind = ap (drop numberWords) u ∙ saved-behind (r .position .numbers) (r .position .lines) (r .position .met) t;
+          saved = u ∙ (λ i. savedWords (sym numbers-are i) (reached i .lines) (reached i .met) ++ t);
           buffer = buffer-is;
           byte-count = end-is;
         }
@@ -492,7 +499,7 @@ module _ {block numbers : List ℕ} {w : Memory} {work answer : List ℕ} (g : G
     lines-done = record {
       number = sym z ∙ en;
       does = subst (λ (b : Bool). DoneOrLeft b
-          (AreAnswered block x numbers answer numbers′ w′ answer′ (r .position .end) (r .at))
+          (AreAnswered block x (answeredStarts block numbers w answer) numbers answer numbers′ w′ answer′ (r .position .end) (r .at))
           (AreUntouched numbers w answer bytes read numbers′ w′ answer′ (r .position .end) (r .at))) (sym (g .both)) (record {
             answered = answered;
             fits = sym (y .full ∙ ap (λ (t : Whole). t .full) whole-here) ∙ y .never (omega arith);

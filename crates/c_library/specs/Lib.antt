@@ -4,3 +4,4 @@ pub mod Calls
 pub mod Sessions
 -- theorems
 pub mod AlikeLaws
+pub mod OnlyLaws

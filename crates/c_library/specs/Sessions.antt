@@ -14,13 +14,16 @@ use Rattle.answers.specs.declared.Put.{Put}
 use Rattle.answers.specs.declared.Put.the-variants.{At, Full}
 use Rattle.answers.specs.Writing.{mostBytes}
 use Rattle.texts.specs.declared.Position.{Position}
+use Rattle.session.specs.declared.Part.the-variants.{Model}
 use Rattle.session.specs.Session.{opening}
 use Rattle.session.specs.Texts.{Progress, afterLine, linesOf, closing}
-use Rattle.memory.specs.Memory.{Memory, memoryOf, sessionOf, Rooms, workWords}
-use Rattle.memory.specs.Saving.{numberWords, numbersAt, linesAt, metAt}
+use Rattle.model_entry.specs.Starts.{Slot, SlotStarts, hasStart, startsBehind}
+use Rattle.memory.specs.Memory.{Memory, memoryOf, sessionOf, startsOf, Rooms, workWords, openingNumbers}
+use Rattle.memory.specs.Saving.{numberWords, savedWords, numbersAt, linesAt, metAt}
 use Rattle.texts.specs.Sending.{mostLines}
-use Rattle.texts.specs.Whole.{Whole, wholeFrom}
+use Rattle.texts.specs.Whole.{Whole, wholeFrom, startsFrom}
 use Rattle.restoring.specs.Restoring.{isSession}
+use Rattle.restoring.specs.Words.{SameWords}
 use Rattle.c_library.specs.Answers.{roomNumber, entryNumber}
 
 -- ===== Opening =====
@@ -29,15 +32,14 @@ use Rattle.c_library.specs.Answers.{roomNumber, entryNumber}
 abbrev pub hasRoom : ℕ → ℕ → ℕ → Bool
 hasRoom numbers arities state = leb numberWords numbers && (eqb arities predicateCount && eqb state stateWords)
 
--- the words are the opening session, and pass the test of a session's, whatever the other words are, if they have their room; the words behind the numbers stay
+-- the words are the opening session, and pass the test of a session's, whatever the other words are, if they have their room; the numbers are those before
+-- the first line, and the words behind them stay
 pub record IsOpen (numbers arities state numbers′ arities′ state′ : List ℕ) : Type 0 where
   pub session : (names listings table value : List ℕ) → Rooms (memoryOf names arities listings table state value)
       → sessionOf (numbersAt numbers′) (memoryOf names arities′ listings table state′ value) ≡ opening
   pub again : (names listings table value : List ℕ) → Rooms (memoryOf names arities listings table state value)
       → isSession (numbersAt numbers′) (memoryOf names arities′ listings table state′ value) ≡ true
-  pub lines : linesAt numbers′ ≡ 0
-  pub met : metAt numbers′ ≡ false
-  pub behind : drop numberWords numbers′ ≡ drop numberWords numbers
+  pub numbers-are : numbers′ ≡ savedWords openingNumbers 0 false ++ drop numberWords numbers
 
 -- nothing is done
 pub record IsLeft (numbers arities state numbers′ arities′ state′ : List ℕ) : Type 0 where
@@ -92,15 +94,19 @@ abbrev pub putEnd : Put → ℕ
 putEnd (At n) = n
 putEnd Full = 0
 
--- the words are the session behind the lines, and pass the test again; the answers' bytes stand in front of the buffer; the words behind the numbers and the
--- bytes behind the answers stay. Within a table the words behind those in use are the session's own working space.
-pub record IsAnswered (q : Progress) (numbers answer : List ℕ) (numbers′ : List ℕ) (w′ : Memory) (answer′ : List ℕ) (bytes′ : ℕ) : Type 0 where
+-- where the listings of its model begin
+abbrev pub startsAt : List ℕ → Memory → SlotStarts
+startsAt numbers w = startsOf (numbersAt numbers) w
+
+-- the words are the session behind the lines, the listings of its model begin where `at` says, and they pass the test again; the answers' bytes stand in front of
+-- the buffer; the words behind the numbers and the bytes behind the answers stay, and before the run so do the numbers of the value, which is none yet.
+-- This fixes every word in use (restoring, specs/Words): the others are the session's own working space.
+pub record IsAnswered (q : Progress) (at : SlotStarts) (numbers answer : List ℕ) (numbers′ : List ℕ) (w′ : Memory) (answer′ : List ℕ) (bytes′ : ℕ) : Type 0 where
   pub session : sessionOf (numbersAt numbers′) w′ ≡ q .session
-  pub lines : linesAt numbers′ ≡ q .lines
-  pub met : metAt numbers′ ≡ q .met
-  pub plain : isPlain numbers′ ≡ true
+  pub starts : (s : Slot) → hasStart (q .session) s ≡ true → startsAt numbers′ w′ s ≡ at s
+  pub idle : q .session .part ≡ Model → numbersAt numbers′ .held ≡ numbersAt numbers .held
   pub again : isSession (numbersAt numbers′) w′ ≡ true
-  pub behind : drop numberWords numbers′ ≡ drop numberWords numbers
+  pub saved : numbers′ ≡ savedWords (numbersAt numbers′) (q .lines) (q .met) ++ drop numberWords numbers
   pub buffer : answer′ ≡ q .bytes ++ drop (length (q .bytes)) answer
   pub byte-count : bytes′ ≡ length (q .bytes)
 
@@ -115,20 +121,28 @@ abbrev pub DoneOrLeft : Bool → Type 0 → Type 0 → Type 0
 DoneOrLeft true P Q = P
 DoneOrLeft false P Q = Q
 
+-- where listings begin behind a line
+abbrev pub startsAfter : List ℕ → List ℕ → Memory → SlotStarts
+startsAfter line numbers w = startsBehind (progressAt numbers w .session) (afterLine (progressAt numbers w) line .session) (startsAt numbers w)
+
 -- the next line of a session, on all words
 pub record Replies (line numbers : List ℕ) (w : Memory) (work answer : List ℕ) (bytes r : ℕ) (numbers′ : List ℕ) (w′ : Memory) (answer′ : List ℕ) (bytes′ : ℕ) : Type 0 where
   pub number : r ≡ entryNumber (isOpen numbers w 1) (canAnswer work answer)
   pub does : DoneOrLeft (isOpen numbers w 1 && canAnswer work answer)
-      (IsAnswered (afterLine (progressAt numbers w) line) numbers answer numbers′ w′ answer′ bytes′)
+      (IsAnswered (afterLine (progressAt numbers w) line) (startsAfter line numbers w) numbers answer numbers′ w′ answer′ bytes′)
       (IsUntouched numbers w answer bytes numbers′ w′ answer′ bytes′)
 
 -- the whole lines of a block, one after another, as long as the buffer takes any answer more
 abbrev pub answeredLines : List ℕ → List ℕ → Memory → List ℕ → Whole
 answeredLines block numbers w answer = wholeFrom mostBytes (length answer) (progressAt numbers w) (linesOf block .whole)
 
+-- where listings begin behind them
+abbrev pub answeredStarts : List ℕ → List ℕ → Memory → List ℕ → SlotStarts
+answeredStarts block numbers w answer = startsFrom mostBytes (length answer) (progressAt numbers w) (linesOf block .whole) (startsAt numbers w)
+
 -- they are answered; no answer was without room; behind the bytes that were read stand the lines that are left, and the rest of the block
-pub record AreAnswered (block : List ℕ) (x : Whole) (numbers answer : List ℕ) (numbers′ : List ℕ) (w′ : Memory) (answer′ : List ℕ) (bytes′ read′ : ℕ) : Type 0 where
-  pub answered : IsAnswered (x .progress) numbers answer numbers′ w′ answer′ bytes′
+pub record AreAnswered (block : List ℕ) (x : Whole) (at : SlotStarts) (numbers answer : List ℕ) (numbers′ : List ℕ) (w′ : Memory) (answer′ : List ℕ) (bytes′ read′ : ℕ) : Type 0 where
+  pub answered : IsAnswered (x .progress) at numbers answer numbers′ w′ answer′ bytes′
   pub fits : x .full ≡ false
   pub inside : read′ ≤ length block
   pub left : linesOf (drop read′ block) ≡ record { whole = x .left; rest = linesOf block .rest }
@@ -142,8 +156,16 @@ pub record AreUntouched (numbers : List ℕ) (w : Memory) (answer : List ℕ) (b
 pub record RepliesAll (block numbers : List ℕ) (w : Memory) (work answer : List ℕ) (bytes read r : ℕ) (numbers′ : List ℕ) (w′ : Memory) (answer′ : List ℕ) (bytes′ read′ : ℕ) : Type 0 where
   pub number : r ≡ entryNumber (isOpen numbers w (length block)) (canAnswer work answer)
   pub does : DoneOrLeft (isOpen numbers w (length block) && canAnswer work answer)
-      (AreAnswered block (answeredLines block numbers w answer) numbers answer numbers′ w′ answer′ bytes′ read′)
+      (AreAnswered block (answeredLines block numbers w answer) (answeredStarts block numbers w answer) numbers answer numbers′ w′ answer′ bytes′ read′)
       (AreUntouched numbers w answer bytes read numbers′ w′ answer′ bytes′ read′)
+
+-- two outcomes of a call: what it answers, the numbers, the words in use, the buffer and the count told are the same
+pub record SameOutcome (r : ℕ) (numbers : List ℕ) (w : Memory) (answer : List ℕ) (bytes k : ℕ) (others : List ℕ) (v : Memory) (answers : List ℕ) (count : ℕ) : Type 0 where
+  pub number-same : r ≡ k
+  pub numbers-same : numbers ≡ others
+  pub words-same : SameWords (numbersAt numbers) w (numbersAt others) v
+  pub answer-same : answer ≡ answers
+  pub bytes-same : bytes ≡ count
 
 -- ===== The end =====
 

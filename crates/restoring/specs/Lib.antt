@@ -16,8 +16,17 @@
 --   session-is == the test is true exactly if the words are a session's (`IsSession`), so that what opening or any line leaves is accepted again
 --
 -- PartLaws: each part of the test.
+--
+-- Definitions: the words in use
+--   countAt, listingAt == how many words a listing of the model has, and which
+--   SameWords == numbers and tables agree in every word in use
+--
+-- Theorem, in SameLaws
+--   same-words == numbers and words that are a session, are the same session and have the model's listings at the same places are the same in every word in use
 
 pub mod Restoring
+pub mod Words
 -- laws
 pub mod PartLaws
 pub mod KeptLaws
+pub mod SameLaws

@@ -62,7 +62,7 @@ returns-2 c =
     let a = ent .before .before .before .before .before .before .before .before .before .before .before .before .before .before .before .before .before .before .before .before .args in
     let g = given (a .numbers .now) (memoryOf (a .names .now) (a .arities .now) (a .listings .now) (a .table .now) (a .state .now) (a .value .now))
     (a .work .now) (a .answers .now) (length (a .block .now)) (ent .enter .ensures) (test .if1 .left) in
-    lines-done g (ent .enter .ensures) (test .if1 .left) (pos .position .ensures) (made .remake-index .ensures) (call .answer-whole .ensures) _ _
+    lines-done g (ent .enter .ensures) (test .if1 .left) (pos .position .ensures) (made .remake-index .ensures) (call .answer-whole .ensures .0) (call .answer-whole .ensures .1) _ _
     (stored .store .ensures)
 
 same-length-10 : tie.Need-same-length-10
