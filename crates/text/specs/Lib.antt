@@ -15,7 +15,6 @@
 --
 -- Definitions: the reader
 --   isKey, kindIn, kindOf == the kind that a key word begins, by its key
---   Keyword, rowOf == a kind with its key and its shape
 --   endForm, oneForm, twoForm, listedForm, pairedForm, drawnForm, namedForm, headedForm, shapeForm == what stands behind a key word, by
 --     its shape
 --   wordsForm == by its kind

@@ -16,7 +16,6 @@ use Rattle.text.specs.declared.Shape.{Shape}
 use Rattle.text.specs.declared.Shape.the-variants.{Nothing, One, Two, Listed, Paired, Drawn, Named, Headed, Never}
 use Rattle.text.specs.declared.Kind.{Kind}
 use Rattle.text.specs.declared.Kind.the-variants.{Bad}
-use Rattle.text.specs.declared.Keyword.{Keyword}
 use Rattle.text.specs.Line.{mostLineBytes, kinds, keyword, shapeOf}
 
 -- the two keys are one
@@ -31,10 +30,6 @@ kindIn (x ∷ xs) k = cond (isKey k (keyOf (keyword x))) x (kindIn xs k)
 -- the kind of the line that begins with the name of this key
 unfoldable pub kindOf : Key → Kind
 kindOf k = kindIn kinds k
-
--- a kind with its key and its shape, as the reader's table has it
-unfoldable pub rowOf : Kind → Keyword
-rowOf k = record { key = keyOf (keyword k); kind = k; shape = shapeOf k }
 
 -- )
 unfoldable pub endForm : List ℕ → Took
