@@ -66,10 +66,6 @@ words-few : (d : Diagram) (out : List ℕ) → length (rows d) ≤ mostRows → 
 unfolding writeWords
 words-few d out h = rw (le-leb (length (rows d)) mostRows h, length-listing d)
 
-listed-as : Listed → Built
-listed-as (Rows m) = Done m
-listed-as TooMany = Refused NoSpace
-
 -- `write_row`
 pub row-writable : {s : List ℕ} {count root : ℕ} {out : List ℕ} → RowWritable s count root out → (n₁ n₂ : ℕ) → spaceRows ≤ n₁ → spaceRows ≤ n₂
     → write.Writable s count root (replicate n₁ 0) (replicate n₂ 0) out

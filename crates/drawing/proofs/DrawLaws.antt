@@ -20,16 +20,17 @@ use Rattle.events.specs.declared.Event.{Event}
 use Rattle.events.specs.Front.{eventsOf}
 use Rattle.names.specs.Keys.{keysAt}
 use Rattle.reading.specs.declared.Binding.the-variants.{Any}
-use Rattle.reading.specs.declared.Scope.{Scope}
-use Rattle.reading.specs.declared.Known.{Known}
-use Rattle.reading.specs.declared.Read.{Read}
-use Rattle.reading.specs.declared.Read.the-variants as W
-use Rattle.reading.specs.Operations.{Op, opsIn}
+use Rattle.reading.specs.Operations.{Op}
 use Rattle.reading.specs.Reading.{Names, Met, arguments, Written, reading}
 use Rattle.reading.specs.Tree.{Reading, depth, opsOf, Named, reach, GoodReading}
 use Rattle.reading.specs.Numbering.{rewardReading}
-use Rattle.reading.specs.Callers.{namesOf, argumentCount, Readable, Reads}
-use Rattle.reading.specs.ReadLaws.{tables-fit, Diagrammed, read-diagram}
+use Rattle.reader.specs.declared.Scope.{Scope}
+use Rattle.reader.specs.declared.Known.{Known}
+use Rattle.reader.specs.declared.Read.{Read}
+use Rattle.reader.specs.declared.Read.the-variants as W
+use Rattle.reader.specs.OperationWords.{opsIn}
+use Rattle.reader.specs.Callers.{namesOf, argumentCount, Readable, Reads}
+use Rattle.reader.specs.ReadLaws.{tables-fit, Diagrammed, read-diagram}
 use Rattle.drawing.specs.declared.Built.{Built}
 use Rattle.drawing.specs.declared.Built.the-variants.{Refused}
 use Rattle.build.specs.Machine.{built, builtClosed, mostTests}

@@ -11,10 +11,11 @@ use Rattle.forms.specs.Tree.{All}
 use Rattle.names.specs.Many.{many}
 use Rattle.names.specs.ManyLaws.{length-many, getD-many}
 use Rattle.reading.specs.AllLaws.{all-at, all-append}
-use Rattle.reading.specs.Operations.{Op, opOf, opAt, opsIn}
+use Rattle.reading.specs.Operations.{Op}
 use Rattle.reading.specs.Operations.Op.{leafOp, ask, step}
 use Rattle.reading.specs.Tree.{Reading, opsOf, GoodTest, GoodReading}
 use Rattle.reading.specs.Tree.Reading.{number, branch}
+use Rattle.reader.specs.OperationWords.{opOf, opAt, opsIn}
 use Rattle.build.specs.Written.{EachAsked, EachValue}
 
 -- a label that is asked is one

@@ -10,7 +10,8 @@ use Rattle.build.specs.Machine.{built, builtClosed}
 use Rattle.drawing.specs.Stacks.{opsFrom, wholeOps}
 use Rattle.drawing.specs.Writing.{Buildable, Labelled, Callable, Under, Answered}
 use Rattle.names.specs.Many.{many}
-use Rattle.reading.specs.Operations.{Op, opAt, opsIn}
+use Rattle.reading.specs.Operations.{Op}
+use Rattle.reader.specs.OperationWords.{opAt, opsIn}
 
 from-last : (ws : List ℕ) (k n : ℕ) → opsFrom ws k (suc n) ≡ opsFrom ws k n ++ (opAt ws (k + n) ∷ [])
 unfolding opsFrom

@@ -24,8 +24,9 @@ use Rattle.build.specs.ReadingLaws.{fine-made}
 use Rattle.build.specs.Machine.{Machine, given, closing, operation, operations, lone, build, mostTests, mostResults}
 use Rattle.drawing.specs.Stacks.{Ops, opsFrom, wholeOps}
 use Rattle.drawing.specs.Writing.{Under}
-use Rattle.reading.specs.Operations.{Op, opAt, opOf}
+use Rattle.reading.specs.Operations.{Op}
 use Rattle.reading.specs.Operations.Op.{ask, leafOp, step}
+use Rattle.reader.specs.OperationWords.{opAt, opOf}
 
 abbrev All : {A : Type 0} → (A → Type 0) → List A → Type 0
 All P [] = Unit {0}

@@ -19,7 +19,7 @@ use Rattle.drawing.specs.declared.Moved.{Moved}
 use Rattle.drawing.specs.declared.Moved.the-variants.{To, Refused}
 use Rattle.build.specs.Machine.{Machine, mostTests, operation, operations, ending, build}
 use Rattle.drawing.specs.Stacks.{opsFrom, wholeOps, testsOf, resultsOf, machineOf, stackWords, Stacked, rowsThen, Moves}
-use Rattle.reading.specs.Operations.{opAt}
+use Rattle.reader.specs.OperationWords.{opAt}
 
 abbrev empty : Machine
 empty = record { tests = []; results = []; formed = [] }

@@ -1,5 +1,6 @@
 -- Laws of the machine in lent words: one operation after another.
 use mathlib.Core.Path.{_≡_, refl, sym, ap, subst, _∙_}
+use mathlib.Core.Bool.{cond}
 use mathlib.Core.List.{List, _∷_}
 use Prim.Native.Nat.{ℕ, zero, suc, _+_, _*_, _-_, _≤_, _<_}
 use native.Mathlib.Omega.{arith}
@@ -33,9 +34,10 @@ use Rattle.row_steps.specs.Running.{Space, Ready, Two, Testable, Gave, Final, R
 use Rattle.drawing.specs.declared.Moved.{Moved}
 use Rattle.drawing.specs.declared.Moved.the-variants.{To, Refused}
 use Rattle.build.specs.Machine.{Machine, mostTests, mostResults, given, closing, operation}
-use Rattle.drawing.specs.Stacks.{Ops, pickTest, testAt, testsOf, resultsOf, machineOf, Stacked, Moves}
-use Rattle.reading.specs.Operations.{Op, opAt, opOf}
+use Rattle.drawing.specs.Stacks.{Ops, testAt, testsOf, resultsOf, machineOf, Stacked, Moves}
+use Rattle.reading.specs.Operations.{Op}
 use Rattle.reading.specs.Operations.Op.{ask, leafOp, step}
+use Rattle.reader.specs.OperationWords.{opAt, opOf}
 
 -- `test_at`
 pub test-is : (ops : List ℕ) (k : ℕ) → getD ops (k * 2) 0 ≡ 1 → Is (record { packed = getD ops (k * 2 + 1) 0 }) ≡ testAt ops k
@@ -243,7 +245,7 @@ op-step : (ops : List ℕ) (k : ℕ) → 3 ≤ getD ops (k * 2) 0 → opAt ops k
 unfolding opAt
 op-step ops k h = step-of (getD ops (k * 2) 0) (getD ops (k * 2 + 1) 0) h
 
-ask-of : (kind v : ℕ) → (kind ≡ 0 → ⊥) → kind < 3 → opOf kind v ≡ ask (pickTest (eqb kind 1) (Is (record { packed = v })) Always)
+ask-of : (kind v : ℕ) → (kind ≡ 0 → ⊥) → kind < 3 → opOf kind v ≡ ask (cond (eqb kind 1) (Is (record { packed = v })) Always)
 ask-of zero v n h = absurd (n refl)
 ask-of (suc zero) v n h = refl
 ask-of (suc (suc zero)) v n h = refl

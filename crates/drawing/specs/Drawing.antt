@@ -14,10 +14,10 @@ use Rattle.forms.specs.Tree as T
 use Rattle.events.specs.declared.Event.{Event}
 use Rattle.events.specs.Events.{diagramEvents}
 use Rattle.events.specs.Front.{eventsOf}
-use Rattle.reading.specs.declared.Scope.{Scope}
 use Rattle.reading.specs.Reading.{Names, arguments, reading}
 use Rattle.reading.specs.Numbering.{rewardReading}
-use Rattle.reading.specs.Callers.{argumentCount, Tables, Variables}
+use Rattle.reader.specs.declared.Scope.{Scope}
+use Rattle.reader.specs.Callers.{argumentCount, Tables, Variables}
 use Rattle.drawing.specs.declared.Built.{Built}
 use Rattle.build.specs.Machine.{built, builtClosed, mostTests}
 use Rattle.drawing.specs.Writing.{builtAs}

@@ -7,10 +7,10 @@ use Rattle.refusal.specs.Outcome.{Outcome}
 use Rattle.words.specs.declared.Key.{Key}
 use Rattle.events.specs.declared.Event.{Event}
 use Rattle.reading.specs.declared.Binding.the-variants.{Any}
-use Rattle.reading.specs.declared.Scope.{Scope}
 use Rattle.reading.specs.Operations.{Op}
 use Rattle.reading.specs.Numbering.{metFirst}
 use Rattle.reading.specs.Reading.{Names, Met, arguments}
+use Rattle.reader.specs.declared.Scope.{Scope}
 use Rattle.build.specs.Machine.{built, builtClosed}
 use Rattle.drawing.specs.Drawing.{drawn, drawnClosed}
 use Rattle.drawing.specs.declared.Ending.{Ending}

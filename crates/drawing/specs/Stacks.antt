@@ -1,7 +1,7 @@
 -- The machine in lent words: the places of the tests asked and the rows of the results given, and the working space (document 01, sections 'Text' and
 -- 'Combination').
 use mathlib.Core.Path.{_≡_}
-use mathlib.Core.Bool.{Bool, true, false}
+use mathlib.Core.Bool.{cond}
 use mathlib.Core.List.{List, [], _∷_}
 use Prim.Native.Nat.{ℕ, zero, suc, _+_, _*_, _/_, _≤_, _<_}
 use lib.ListN.{length, getD}
@@ -20,15 +20,12 @@ use Rattle.row_steps.specs.Running.{Space, Final}
 use Rattle.drawing.specs.declared.Moved.{Moved}
 use Rattle.drawing.specs.declared.Moved.the-variants.{To, Refused}
 use Rattle.build.specs.Machine.{Machine, mostTests, mostResults, operation}
-use Rattle.reading.specs.Operations.{Op, opAt}
-
-abbrev pub pickTest : Bool → Test → Test → Test
-pickTest true x y = x
-pickTest false x y = y
+use Rattle.reading.specs.Operations.{Op}
+use Rattle.reader.specs.OperationWords.{opAt}
 
 -- what the operation k asks, where it asks
 unfoldable pub testAt : List ℕ → ℕ → Test
-testAt ws k = pickTest (eqb (getD ws (k * 2) 0) 1) (Is (record { packed = getD ws (k * 2 + 1) 0 })) Always
+testAt ws k = cond (eqb (getD ws (k * 2) 0) 1) (Is (record { packed = getD ws (k * 2 + 1) 0 })) Always
 
 -- the n operations from k on, and all that the words hold
 unfoldable pub opsFrom : List ℕ → ℕ → ℕ → List Op

@@ -2,8 +2,8 @@
 use apply::Combined;
 use label::Label;
 use label::Test;
-use reading::Read;
-use reading::Scope;
+use reader::Read;
+use reader::Scope;
 use refusal::Refusal;
 use row_steps::Stepped;
 use store::Formed;
@@ -19,11 +19,11 @@ ghost use Rattle.diagram.specs.Variables.{closed};
 ghost use Rattle.combine.specs.Calls.{few};
 ghost use Rattle.apart.specs.Results.{Writable};
 ghost use Rattle.row_steps.specs.Running.{Ready, Ran};
-ghost use Rattle.reading.specs.Operations.{opAt, opsIn};
 ghost use Rattle.reading.specs.Operations.Op.{step};
 ghost use Rattle.reading.specs.declared.Binding.the-variants.{Any};
 ghost use Rattle.reading.specs.Reading.{reading};
-ghost use Rattle.reading.specs.Callers.{namesOf, argumentCount, Readable, Reads};
+ghost use Rattle.reader.specs.OperationWords.{opAt, opsIn};
+ghost use Rattle.reader.specs.Callers.{namesOf, argumentCount, Readable, Reads};
 ghost use Rattle.build.specs.Build.{held};
 ghost use Rattle.build.specs.Machine.{build, built, builtClosed};
 ghost use Rattle.drawing.specs.Stacks.{Ops, testAt, wholeOps, Stacked, machineOf, Moves};
@@ -389,7 +389,7 @@ fn read_to(
     ensures { λ r. ⌜ Reads (reading (namesOf (now (names .entry)) (now (arities .entry)) scope) (eventsOf (drop at (now (line .entry)))) (knownTo ending (eventsOf (drop at (now (line .entry)))) (keysAt (now (variables .entry)) 0 known))) r (now (variables .exit)) (now (operations .exit)) ⌝ }
 {
     match ending {
-        Ending::Plain => reading::read_words(
+        Ending::Plain => reader::read_words(
             line,
             at,
             names,
@@ -399,7 +399,7 @@ fn read_to(
             scope,
             known,
         ),
-        Ending::Closed => reading::read_reward(
+        Ending::Closed => reader::read_reward(
             line,
             at,
             names,

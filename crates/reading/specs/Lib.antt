@@ -20,6 +20,7 @@
 -- Definitions: the variables of a reward by ascending N, kind by kind (document 02, L2 and L12)
 --   Kind, minimumOf, variableOf, wordKeys, keysOf, variableKeys, minimumKeys == the variables of a kind among the words, as often as they are written
 --   occurring, occurringMet == each once, in the order of their first occurrence, however many
+--   letterV, takes == the byte v; all bytes of a word are taken
 --   isNumbered, numberOf, allNumbered == a name is v and N without leading zeros, nothing else; its N; every variable is so
 --   inserted, byNumber == sorted in by ascending N, each once
 --   variablesFirst, metFirst == the variables that have their number before the words: of each kind all, or none
@@ -28,10 +29,13 @@
 -- Definitions: the head of (becomes (p ?a ..) DIAGRAM)
 --   Opening, openingOf, openedNumber, headNumber == its predicate, or 2
 --   Argument, argumentOf, pickArgument, Head, argumentsFrom, openedArguments, headArguments == its arguments: 3 for another count, 2 for a second
+--   argumentKeys, headKeys == the same on the line's tree: the keys of the arguments
 --
 -- Definitions: the same on trees
 --   Reading == a diagram as it is written, each atom as what it asks
---   resolveTerm, resolveAtom, resolveDiagram == every name resolved, in the order of the words
+--   Result, having == what a part of the line stands for, with the variables met by its end; so for an outcome
+--   resolveTerm, resolveTerms, resolveAtom, resolveDiagram == every name resolved, in the order of the words
+--   joined, testing, branching == a term before the others; the test of the terms; the branch of test and parts
 --   opsOf == the operations of a diagram: test, part for true, part for false, step
 --   diagramReading == what a diagram's words come to
 --   Reach, reach, maximumReach, Named == how many variables of each kind may be named; the terms that may be: a minimum variable in a reward alone
@@ -41,9 +45,9 @@
 --   reading-sound: what is accepted names nothing unbound, has labels under the arity list and leaves in range
 --   named-below: a weight or a truth diagram names no variable past its arguments, and no minimum variable
 --   reading-many: with more variables of a kind than the limit, the words' first fault and 8 do not depend on how variables are numbered
+--   met-kept: the variables kept are the first of all, one more than the limit
 --   reading-counts: where any variable may stand, 8 is judged by all of each kind, though only one more than the limit is kept
---
--- Callers and Gathering have inner contracts.
+--   numbered-number: a name that is written with its N is v and a whole number without leading zeros, nothing else
 
 -- definitions
 pub mod Operations
@@ -52,15 +56,11 @@ pub mod Head
 pub mod Tree
 pub mod Occurrences
 pub mod Numbering
-pub mod Callers
-pub mod Gathering
 -- laws
 pub mod OutcomeLaws
 pub mod AllLaws
 pub mod TreeLaws
 pub mod GoodLaws
-pub mod OperationLaws
 pub mod OccurrenceLaws
 pub mod LineLaws
-pub mod ReadLaws
 pub mod NumberingLaws

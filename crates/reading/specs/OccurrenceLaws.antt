@@ -25,11 +25,11 @@ use Rattle.reading.specs.Reading.{State, with-pass, readWord, readWords,
 use Rattle.reading.specs.Occurrences.{occurringMet}
 use Rattle.reading.specs.OutcomeLaws.{apart, chained}
 
--- those that are kept
-abbrev kept : List Key → List Key
+-- the pass keeps this many of a kind
+abbrev pub kept : List Key → List Key
 kept us = take (variableCount + 1) us
 
-abbrev keptMet : Met → Met
+abbrev pub keptMet : Met → Met
 keptMet m = record { variables = kept (m .variables); minimums = kept (m .minimums) }
 
 pick-same : (b : Bool) (x : List Key) → cond b x x ≡ x
@@ -37,7 +37,7 @@ pick-same true x = refl
 pick-same false x = refl
 
 -- one variable more, in the table and among all
-met-kept : (us : List Key) (k : Key) → met Any (kept us) k ≡ kept (cond (isAmong k us) us (us ++ (k ∷ [])))
+pub met-kept : (us : List Key) (k : Key) → met Any (kept us) k ≡ kept (cond (isAmong k us) us (us ++ (k ∷ [])))
 unfolding met
 met-kept us k = go (decLt (length us) (variableCount + 1))
   where
