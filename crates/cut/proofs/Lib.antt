@@ -1,4 +1,3 @@
-pub mod LeavingLaws
 pub mod WritingLaws
 pub mod ChoosingLaws
 pub mod ChoiceLaws

@@ -1,83 +1,117 @@
--- Laws of `write_left`: what is left is formed, its listing written, then closed up.
-use mathlib.Core.Path.{_≡_, sym, ap, subst, _∙_}
-use mathlib.Core.Bool.{Bool}
-use mathlib.Core.List.{List, _++_}
-use Prim.Native.Nat.{ℕ, pred, _*_, _≤_}
+-- Laws of `edge_place` and `write_left`: every edge but one stays.
+use mathlib.Core.Path.{_≡_, refl, sym, ap, subst, _∙_}
+use mathlib.Core.Logic.{_≢_}
+use mathlib.Core.Bool.{Bool, true, false, not, _&&_, Bool·beq}
+use mathlib.Core.List.{List}
+use Prim.Native.Nat.{ℕ, _+_, _*_, _≤_, _<_}
 use native.Mathlib.Omega.{arith}
-use lib.ListN.{length, drop, replicate}
-use Rattle.diagram.specs.Sizes.{spaceRows}
+use lib.ListN.{length, getD, set, replicate, length-set, length-replicate, getD-replicate}
+use lib.Seq.{getD-set-same, getD-set-other}
+use lib.Dec.{eqb}
+use borrow.Author.Tests.{eqb-true, eqb-false}
+use Rattle.basics.specs.Tests.{Flag, isTrue, isFalse, flag}
+use Rattle.diagram.specs.Sizes.{mostRows}
 use Rattle.diagram.specs.Diagram.{Diagram}
 use Rattle.diagram.specs.Rows.{rows}
 use Rattle.diagram.specs.Words.{rowCount}
-use Rattle.diagram.specs.Listing.{listing, diagramOf, Good}
-use Rattle.diagram.specs.Validity.{Valid, tree}
+use Rattle.diagram.specs.Listing.{listing, diagramOf}
+use Rattle.diagram.specs.Validity.{tree}
 use Rattle.diagram.specs.Variables.{closed}
-use Rattle.diagram.specs.DiagramOfListing.{diagram-is, good-diagram}
-use Rattle.diagram.specs.ListingValid.{listing-is-valid}
-use Rattle.store.specs.declared.Formed.{Formed}
-use Rattle.store.specs.declared.Formed.the-variants.{Row}
-use Rattle.write.specs.declared.Listed.{Listed}
-use Rattle.write.specs.declared.Listed.the-variants.{Rows, TooMany}
-use Rattle.write.specs.Renaming.{listedIn}
-use Rattle.write.specs.Writing as write
-use Rattle.write.specs.Writing.{WritePost}
-use Rattle.apart.specs.Results.{Closable}
-use Rattle.apart.proofs.StandingLaws.{Ready, stands-ready, ready-writable, ready-few, ready-closable, ready-done}
-use Rattle.cutting.specs.Cut.{cutDiagram, written}
-use Rattle.cutting.specs.ReduceLaws.{cut-good}
-use Rattle.cut.specs.Calls.{Writable, Trimmed}
-use Rattle.cut.specs.Leaving.{leftOf, Leavable, Left}
-use Rattle.cut.specs.LeavingLaws.{cut-left}
+use Rattle.diagram.specs.Shown.{same-eqb}
+use Rattle.paths.specs.Routes.{bit, Rows}
 use Rattle.paths.specs.PathLaws.{listing-rows, row-is}
+use Rattle.cutting.specs.Cut.{cutAt, reduced, cutDiagram, written}
+use Rattle.reduction.specs.Claims.{allBut}
+use Rattle.reduction.specs.KeepingLaws.{cut-keeping}
+use Rattle.pruning.specs.Pruning.{keptOf, edgeAt, Agrees, Prunable, Pruned}
+use Rattle.cut.specs.Calls.{Writable, Trimmed}
 
+-- `edge_place`
+pub place-true : (k : ℕ) {b : Bool} → b ≡ true → k * 2 ≡ edgeAt k b
+place-true k e = rw e
+
+pub place-false : (k : ℕ) {b : Bool} → b ≡ false → k * 2 + 1 ≡ edgeAt k b
+place-false k e = rw e
+
+-- a place for each edge
+place-below : (i n : ℕ) (c : Bool) → i < n → edgeAt i c < n * 2
+place-below i n true h = omega arith
+place-below i n false h = omega arith
+
+place-other : (i j : ℕ) (b c : Bool) → i ≢ j → edgeAt i b ≢ edgeAt j c
+place-other i j true true n e = n (omega arith)
+place-other i j true false n e = omega arith
+place-other i j false true n e = omega arith
+place-other i j false false n e = n (omega arith)
+
+place-same : (i : ℕ) (b c : Bool) → Bool·beq b c ≡ false → edgeAt i c ≢ edgeAt i b
+place-same i true false q e = omega arith
+place-same i false true q e = omega arith
+place-same i true true q e = absurd (let z : _≡_ {A = ℕ} 0 1 = cc in omega arith)
+place-same i false false q e = absurd (let z : _≡_ {A = ℕ} 0 1 = cc in omega arith)
+
+same-side : (b c : Bool) → Bool·beq b c ≡ true → b ≡ c
+same-side true true q = refl
+same-side false false q = refl
+same-side true false q = sym q
+same-side false true q = q
+
+-- `write_left`
 module _ {ar ws out work : List ℕ} {k : ℕ} (g : Writable ar ws out work k) where
-  valid : Valid ar ws
-  valid = listing-is-valid ar ws (g .call .listing)
+  lines : Rows ws (rowCount ws)
+  lines = listing-rows ar ws (g .call .listing)
 
-  pub write-leavable : Leavable ws k work
-  write-leavable = record {
-    rows = listing-rows ar ws (g .call .listing);
-    row = g .row;
-    some = valid .some;
-    room = g .call .work-room;
-  }
+  pub left-row : k < mostRows
+  left-row = omega (arith, g .row, lines .few)
 
-  module _ {b : Bool} {x : Formed} {s : List ℕ} (f : Left ws k b x s) {root count : ℕ} (e : x ≡ Row root count) (l : length s ≡ length work) where
-    -- what is left, before it is closed up
-    abbrev D : Diagram
-    D = leftOf (tree ws k) b (tree ws (pred (rowCount ws)))
+  module _ (b : Bool) {e : ℕ} (p : e ≡ edgeAt k b) (n : ℕ) (h : mostRows * 2 ≤ n) where
+    pub left-place : e < n
+    left-place = omega (arith, place-below k mostRows b left-row)
 
-    left-is : leftOf (tree ws k) b (diagramOf ws) ≡ D
-    left-is = ap (leftOf (tree ws k) b) (diagram-is ar ws valid)
+    abbrev edges : List ℕ
+    edges = set (replicate n 1) e 0
 
-    left-good : Good ar D
-    unfolding leftOf
-    left-good = subst (Good ar) left-is (cut-good ar (diagramOf ws) (tree ws k) b (good-diagram ar ws valid) (g .few))
+    pub left-prunable : Prunable ar ws edges out work
+    left-prunable = record {
+      listing = g .call .listing;
+      few = g .few;
+      places = rw (length-set, length-replicate) (omega (arith, lines .few));
+      out-room = g .call .out-room;
+      work-room = g .call .work-room;
+    }
 
-    ready : Ready ar D s root count out
-    ready = stands-ready (f .stands) e left-good (omega (arith, g .call .work-room)) (g .call .out-room)
+    one : (i : ℕ) (c : Bool) → i < rowCount ws → edgeAt i c ≢ edgeAt k b → getD edges (edgeAt i c) 0 ≡ 1
+    one i c l d =
+        getD-set-other (replicate n 1) e (edgeAt i c) 0 0 (λ z. d (z ∙ p))
+        ∙ getD-replicate n (edgeAt i c) 1 0 (omega (arith, place-below i (rowCount ws) c l, lines .few))
 
-    pub write-writable : (n₁ n₂ : ℕ) → spaceRows ≤ n₁ → spaceRows ≤ n₂ → write.Writable s count root (replicate n₁ 0) (replicate n₂ 0) out
-    write-writable n₁ n₂ h h′ = ready-writable ready n₁ n₂ h h′
+    left-agrees : Agrees ws edges (allBut (tree ws k) b)
+    unfolding allBut
+    left-agrees = record { each = λ i l d c. go i l c (flag (eqb k i)) (flag (Bool·beq b c)) }
+      where
+        is : (i : ℕ) (c : Bool) → i < rowCount ws → bit (not (eqb k i && Bool·beq b c)) ≡ bit (allBut (tree ws k) b (tree ws i) c)
+        is i c l = sym (ap (λ (x : Bool). bit (not (x && Bool·beq b c))) (same-eqb ws (rowCount ws) (tree ws) (lines .shown) k i (g .row) l))
 
-    module _ {y : Listed} {marks′ out′ : List ℕ} (w : WritePost s root out y marks′ out′) where
-      pub write-many : {r : ℕ} → y ≡ TooMany → Trimmed ar ws k b out r out′
-      write-many q = ready-few ready w q
+        go : (i : ℕ) → i < rowCount ws → (c : Bool) → Flag (eqb k i) → Flag (Bool·beq b c) → getD edges (edgeAt i c) 0 ≡ bit (allBut (tree ws k) b (tree ws i) c)
+        go i l c (isFalse q) z = one i c l (place-other i k c b (λ x. eqb-false k i q (sym x))) ∙ sym (ap (λ (x : Bool). bit (not (x && Bool·beq b c))) q) ∙ is i c l
+        go i l c (isTrue q) (isFalse z) =
+            one i c l (subst (λ (x : ℕ). edgeAt i c ≢ edgeAt x b) (sym (eqb-true k i q)) (place-same i b c z))
+            ∙ sym (rw (q, z)) ∙ is i c l
+        go i l c (isTrue q) (isTrue z) =
+            ap (λ (x : ℕ). getD edges x 0) (sym (p ∙ ap (λ (x : ℕ). edgeAt x b) (eqb-true k i q) ∙ ap (edgeAt i) (same-side b c z)))
+            ∙ getD-set-same (replicate n 1) e 0 0 (rw length-replicate left-place)
+            ∙ sym (rw (q, z)) ∙ is i c l
 
-      module _ {m : ℕ} (q : y ≡ Rows m) where
-        pub write-closable : Closable ar out′ m
-        write-closable = ready-closable ready w q
+    left-is : closed ar (keptOf (allBut (tree ws k) b) (diagramOf ws)) ≡ cutDiagram ar (diagramOf ws) k b
+    unfolding keptOf cutDiagram
+    left-is =
+        ap (λ (d : Diagram). closed ar (reduced d)) (sym (cut-keeping (tree ws k) b (diagramOf ws)))
+        ∙ ap (λ (d : Diagram). closed ar (reduced (cutAt d b (diagramOf ws)))) (sym (row-is ar ws (g .call .listing) k (g .row)))
 
-        closed-is : closed ar D ≡ cutDiagram ar (diagramOf ws) k b
-        closed-is =
-            ap (closed ar) (sym left-is ∙ ap (λ (d : Diagram). leftOf d b (diagramOf ws)) (sym (row-is ar ws (g .call .listing) k (g .row))))
-            ∙ sym (cut-left ar (diagramOf ws) k b)
-
-        pub write-done : {out″ : List ℕ} → out″ ≡ listing (closed ar (listedIn out′ m)) ++ drop (m * 3) out′ → Trimmed ar ws k b out m out″
-        unfolding written
-        write-done u =
-            let z = ready-done ready w q u in
-            record {
-              answer = z .0 ∙ ap (λ (d : Diagram). length (rows d)) closed-is;
-              words = z .1 ∙ ap (λ (d : Diagram). listing d ++ drop (length (listing d)) out) closed-is;
-            }
+    pub left-done : {r : ℕ} {out′ : List ℕ} → ((stays : Diagram → Bool → Bool) → Agrees ws edges stays → Pruned ar ws stays out r out′) → Trimmed ar ws k b out r out′
+    left-done f =
+        let t = f (allBut (tree ws k) b) left-agrees in
+        record {
+          answer = t .answer ∙ ap (λ (d : Diagram). length (rows d)) left-is;
+          words = t .words ∙ ap (λ (d : Diagram). written (listing d) out) left-is;
+        }

@@ -14,6 +14,7 @@ use Rattle.refusal.specs.Outcome.{Outcome, ok, refused}
 use Rattle.basics.specs.Tests.{Flag, isTrue, isFalse, flag, Cmp, cmp, below, equal, above, Either, one, other, either, or-one, or-other}
 use Rattle.basics.specs.Members.{mem, clash}
 use Rattle.label.specs.Limits.{variableCount}
+use Rattle.diagram.specs.Sizes.{mostRows}
 use Rattle.diagram.specs.Diagram.{Diagram}
 use Rattle.diagram.specs.Rows.{rows}
 use Rattle.diagram.specs.Words.{rowCount}
@@ -28,9 +29,9 @@ use Rattle.cutting.specs.Cut.{reduced, written}
 use Rattle.reduction.specs.declared.Reduced.the-variants.{Done, Refused}
 use Rattle.reduction.specs.Combinations.{someOf, formed, winners}
 use Rattle.reduction.specs.Reduction.{isOn, keeping, reducedDiagram, hasKinds, mostRuns, runs, mostFormed, reduceAnswer, answerOf, bufferOf}
-use Rattle.reduce.specs.Routing.{winning, staysIn}
+use Rattle.pruning.specs.Pruning.{keptOf, Agrees, Prunable, Pruned}
+use Rattle.reduce.specs.Routing.{winning, staysIn, Won}
 use Rattle.reduce.specs.FormedLaws.{winner-below}
-use Rattle.reduce.specs.Keeping.{keptOf, Writable, Shortened}
 use Rattle.reduce.specs.Searching.{isMarked}
 use Rattle.reduce.specs.Winning.{Winnable, Winning, Plain, Answered}
 
@@ -171,18 +172,28 @@ module _ {ar ws counts used : List ℕ} {n m v all : ℕ} {out work : List ℕ} 
       answer-plain ar d (omega (arith, paths-are, g .routed .few)) (g .kinds) (omega (arith, runs-are, g .few))
       ∙ ap (λ (c : Bool). cond c (refused Combinations) (ok (reducedDiagram ar d))) e
 
+  pub plain-edges : rowCount ws * 2 ≤ mostRows * 2
+  plain-edges = omega (arith, g .routed .rows .few, g .whole)
+
+  pub plain-prunable : {edges : List ℕ} (k : ℕ) → mostRows * 2 ≤ k → length edges ≡ length {A = ℕ} (replicate k 0) → Prunable ar ws edges out work
+  plain-prunable k h l = record {
+    listing = g .listing;
+    few = omega (arith, paths-are, g .routed .few);
+    places = omega (arith, plain-edges, length-replicate {A = ℕ} k 0);
+    out-room = g .out-room;
+    work-room = g .work-room;
+  }
+
   module _ {wins wins′ : List ℕ} {x : ℕ} (w : Winning ar ws m wins wins′ x) where
     pub plain-many : mostFormed < x → Answered ar ws out (Refused Combinations) out
     plain-many h =
         let e : reduceAnswer ar d ≡ refused Combinations = answer-at true (lt-ltb mostFormed (formed ar d) (omega (arith, w .answer))) in
         record { answer = sym (ap answerOf e); words = sym (ap (bufferOf out) e) }
 
-    pub plain-writable : (k : ℕ) → mostPaths ≤ k → length wins′ ≡ length {A = ℕ} (replicate k 0) → Writable ar ws counts wins′ m out work
-    plain-writable k h l = record {
-      listing = g .listing;
-      won = record { routed = subst (λ (k : ℕ). Routed ws counts k m) (g .whole) (g .routed); places = omega (arith, g .routed .few, l, length-replicate {A = ℕ} k 0) };
-      out-room = g .out-room;
-      work-room = g .work-room;
+    pub plain-won : (k : ℕ) → mostPaths ≤ k → length wins′ ≡ length {A = ℕ} (replicate k 0) → Won ws counts wins′ (rowCount ws) m
+    plain-won k h l = record {
+      routed = subst (λ (k : ℕ). Routed ws counts k m) (g .whole) (g .routed);
+      places = omega (arith, g .routed .few, l, length-replicate {A = ℕ} k 0);
     }
 
     module _ (h : x ≤ mostFormed) (clean : (p : ℕ) → getD wins p 0 ≡ 0) where
@@ -201,8 +212,10 @@ module _ {ar ws counts used : List ℕ} {n m v all : ℕ} {out work : List ℕ} 
       unfolding keptOf reducedDiagram
       left-is = λ i. closed ar (reduced (keeping (λ r b. stays-is r b i) d))
 
-      pub plain-done : {k : ℕ} {out′ : List ℕ} → Shortened ar ws wins′ m out k out′ → Answered ar ws out (Done k) out′
-      plain-done {k} {out′} t =
+      pub plain-done : {edges out′ : List ℕ} {k : ℕ} → Agrees ws edges (staysIn ws wins′ m)
+          → ((stays : Diagram → Bool → Bool) → Agrees ws edges stays → Pruned ar ws stays out k out′) → Answered ar ws out (Done k) out′
+      plain-done a p =
+          let t = p (staysIn ws wins′ m) a in
           let e : reduceAnswer ar d ≡ ok (reducedDiagram ar d) = answer-at false (le-ltb mostFormed (formed ar d) (omega (arith, w .answer))) in
           record {
             answer = ap Done (t .answer ∙ ap (λ (y : Diagram). length (rows y)) left-is) ∙ sym (ap answerOf e);

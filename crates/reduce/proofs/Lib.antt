@@ -1,6 +1,4 @@
 pub mod EdgeLaws
-pub mod KeepingLaws
-pub mod WritingLaws
 pub mod SearchLaws
 pub mod VisitLaws
 pub mod TableLaws

@@ -1,9 +1,8 @@
--- The public call of a reduction (document 02, L13). What a reduction is, and what the call answers, stands in crate reduction.
+-- The public call of a reduction (document 02, L13). What a reduction is, and what the call answers, stands in crate reduction; what is left is formed by crate pruning.
 --
 -- Inner contracts: paths and edges
 --   Won, Edged == a mark for each path; an edge that is asked about
 --   winning, isOnPath, staysIn == the paths that are marked; an edge on one of them
---   keptOf, Keeping, Kept, Shortened == what is left once every other edge goes to leaf 0, formed row by row and written
 --
 -- Inner contracts: the search
 --   stacked, signOf == the ground literals known, the last first; what they tell of a fact
@@ -25,13 +24,11 @@
 --   formed-is, winners-are: it forms what document 02 counts as formed, and finds the winning paths
 
 pub mod Routing
-pub mod Keeping
 pub mod Searching
 pub mod Facts
 pub mod Tables
 pub mod Winning
 -- laws
-pub mod KeepingLaws
 pub mod FactLaws
 pub mod ClearLaws
 pub mod FormedLaws

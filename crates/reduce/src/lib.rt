@@ -4,28 +4,24 @@ use label::Term;
 use paths::PATHS;
 use reduction::Reduced;
 use refusal::Refusal;
-use store::Formed;
-use write::Listed;
 ghost use mathlib.Core.Path.{_≡_};
-ghost use mathlib.Core.Bool.{true, cond};
-ghost use Prim.Native.Nat.{suc, _+_, _-_, _*_, _/_, _^_, _<_, _≤_, min};
-ghost use lib.ListN.{length, getD};
+ghost use mathlib.Core.Logic.{_≢_};
+ghost use mathlib.Core.Bool.{true};
+ghost use Prim.Native.Nat.{suc, _+_, _-_, _*_, _^_, _<_, _≤_, min};
+ghost use lib.ListN.{length};
 ghost use lib.Dec.{eqb};
 ghost use Rattle.label.specs.Limits.{leafMark, termEnd, variableCount};
 ghost use Rattle.label.specs.Callers.{TermMap};
-ghost use Rattle.diagram.specs.Words.{labelAt};
+ghost use Rattle.diagram.specs.Words.{labelAt, rowCount, isListing};
 ghost use Rattle.diagram.specs.Validity.{tree};
-ghost use Rattle.apply.specs.Formed.{add};
-ghost use Rattle.store.specs.Space.{diagramsOf, Formation};
 ghost use Rattle.reduction.specs.Reduction.{isOn, mostRuns, hasKinds, hasParameter, reduceCall, answerOf, bufferOf};
-ghost use Rattle.diagram.specs.Words.{isListing};
 ghost use Rattle.diagram.specs.Listing.{diagramOf};
-ghost use Rattle.paths.specs.Routes.{Leaves};
+ghost use Rattle.paths.specs.Routes.{bit, Leaves};
+ghost use Rattle.pruning.specs.Pruning.{Agrees};
 ghost use Rattle.reduce.specs.Routing.{winning, isOnPath, staysIn, Won, Edged};
 ghost use Rattle.reduce.specs.Searching.{stacked, signOf, betterOf, Searching, Standing, Reached, Visited, Forked};
 ghost use Rattle.reduce.specs.Tables.{Divided, Placed, Ranked, Mapping, Mapped, factWord, Labelled, Filled, digits, Blocked, Grounded, Tabling, Tabled};
 ghost use Rattle.reduce.specs.Winning.{Winnable, Winning, Plain, Answered, someUsed, Markable, Reducible};
-ghost use Rattle.reduce.specs.Keeping.{keptOf, Parent, Keeping, Keepable, Kept, Writable, Shortened};
 
 // Facts at most: valuations times rows, of which there are fewer than twice the paths.
 const FACTS: usize = 1024;
@@ -481,8 +477,8 @@ fn is_on_path(
     true
 }
 
-// Whether the edge of row r on that side is on one of the m paths that is marked.
-fn is_on(
+// The word of the edge of the branch row r on that side: 1 if one of the m paths that is marked goes through it, else 0.
+fn edge_word(
     words: &[u64],
     counts: &[u64],
     n: usize,
@@ -490,156 +486,37 @@ fn is_on(
     wins: &[u64],
     r: usize,
     side: u64,
-) -> bool
+) -> u8
     requires { ⌜ Won (now words) (now counts) (now wins) n m ⌝ }
     requires { ⌜ Edged n r side ⌝ }
-    ensures { λ x. ⌜ x ≡ isOn (tree (now (words .entry)) (n - 1)) (winning (now (wins .entry)) m) (tree (now (words .entry)) r) (eqb side 1) ⌝ }
+    ensures { λ x. ⌜ (labelAt (now (words .entry)) r ≢ leafMark → x ≡ bit (isOn (tree (now (words .entry)) (n - 1)) (winning (now (wins .entry)) m) (tree (now (words .entry)) r) (eqb side 1))) ⌝ }
 {
+    if words[r * 3] == Label::LEAF {
+        return 0;
+    }
     let mut p = 0;
     while p < m {
         if is_on_path(words, counts, n, m, wins, r, side, p) {
-            return true;
+            return 1;
         }
         p += 1;
-    }
-    false
-}
-
-// The place of what is left behind the edge of the branch row i on that side: row 0, which is leaf 0, where the edge goes.
-fn child(
-    words: &[u64],
-    counts: &[u64],
-    m: usize,
-    wins: &[u64],
-    numbers: &[u16],
-    i: usize,
-    side: u64,
-) -> usize
-    requires { ⌜ Parent (now words) (now counts) (now wins) (now numbers) m i side ⌝ }
-    ensures { λ r. ⌜ r ≡ cond (staysIn (now (words .entry)) (now (wins .entry)) m (tree (now (words .entry)) i) (eqb side 1)) (getD (now (numbers .entry)) (getD (now (words .entry)) (i * 3 + side) 0) 0) 0 ⌝ }
-{
-    let n = words.len() / 3;
-    if is_on(words, counts, n, m, wins, i, side) {
-        let k = words[i * 3 + (side as usize)] as usize;
-        return basics::wide(numbers[k]);
     }
     0
 }
 
-// Forms what is left of row i; `numbers` has the places of what is left of the rows before it, and row 0 of the space is leaf 0.
-fn keep_row(
-    words: &[u64],
-    counts: &[u64],
-    m: usize,
-    wins: &[u64],
-    numbers: &[u16],
-    space: &mut [u64],
-    heads: &mut [u16],
-    links: &mut [u16],
-    count: usize,
-    i: usize,
-) -> Formed
-    requires { ⌜ Keeping (now words) (now counts) (now wins) m (now space) (now heads) (now links) (now numbers) count i ⌝ }
-    requires { ⌜ i < length (now words) / 3 ⌝ }
-    ensures { λ r. ⌜ Formation (keptOf (staysIn (now (words .entry)) (now (wins .entry)) m) (tree (now (words .entry)) i)) (add (keptOf (staysIn (now (words .entry)) (now (wins .entry)) m) (tree (now (words .entry)) i)) (diagramsOf (now (space .entry)) count)) r (now (space .exit)) (now (heads .exit)) (now (links .exit)) ⌝ }
-{
-    let l = words[i * 3];
-    if l == Label::LEAF {
-        return store::leaf(space, heads, links, count, words[i * 3 + 1]);
-    }
-    let high = child(words, counts, m, wins, numbers, i, 1);
-    let low = child(words, counts, m, wins, numbers, i, 2);
-    store::branch(space, heads, links, count, l, high, low)
-}
-
-// Forms what is left of the rows in number order.
-fn keep_rows(
-    words: &[u64],
-    counts: &[u64],
-    m: usize,
-    wins: &[u64],
-    space: &mut [u64],
-    heads: &mut [u16],
-    links: &mut [u16],
-    numbers: &mut [u16],
-    first: usize,
-) -> Formed
-    requires { ⌜ Keeping (now words) (now counts) (now wins) m (now space) (now heads) (now links) (now numbers) first 0 ⌝ }
-    ensures { λ r. ⌜ Kept (now (words .entry)) (now (wins .entry)) m r (now (space .exit)) ⌝ }
+// Finds which edges stay: two words for each row, the true edge's first.
+fn find_edges(words: &[u64], counts: &[u64], m: usize, wins: &[u64], edges: &mut [u8])
+    requires { ⌜ Won (now words) (now counts) (now wins) (rowCount (now words)) m ⌝ }
+    requires { ⌜ rowCount (now words) * 2 ≤ length (now edges) ⌝ }
+    ensures { λ _. ⌜ Agrees (now (words .entry)) (now (edges .exit)) (staysIn (now (words .entry)) (now (wins .entry)) m) ⌝ }
 {
     let n = words.len() / 3;
-    let mut count = first;
     let mut i = 0;
     while i < n {
-        let r = keep_row(
-            words,
-            counts,
-            m,
-            wins,
-            numbers,
-            space,
-            heads,
-            links,
-            count,
-            i,
-        );
-        let Formed::Row(j, c) = r else {
-            return Formed::Full;
-        };
-        numbers[i] = j as u16;
-        count = c;
+        edges[i * 2] = edge_word(words, counts, n, m, wins, i, 1);
+        edges[i * 2 + 1] = edge_word(words, counts, n, m, wins, i, 2);
         i += 1;
     }
-    Formed::Row(basics::wide(numbers[n - 1]), count)
-}
-
-// Forms what is left once every edge on no marked path goes to leaf 0.
-fn keep(words: &[u64], counts: &[u64], m: usize, wins: &[u64], work: &mut [u64]) -> Formed
-    requires { ⌜ Keepable (now words) (now counts) (now wins) m (now work) ⌝ }
-    ensures { λ r. ⌜ Kept (now (words .entry)) (now (wins .entry)) m r (now (work .exit)) ⌝ }
-{
-    let mut heads = [0u16; table::BUCKETS];
-    let mut links = [0u16; diagram::SPACE_ROWS];
-    let mut numbers = [0u16; diagram::ROWS];
-    let Formed::Row(_, first) = store::leaf(work, &mut heads, &mut links, 0, 0) else {
-        return Formed::Full;
-    };
-    keep_rows(
-        words,
-        counts,
-        m,
-        wins,
-        work,
-        &mut heads,
-        &mut links,
-        &mut numbers,
-        first,
-    )
-}
-
-// Writes what is left once every edge on no marked path goes to leaf 0, closed up, and answers its rows.
-fn write_kept(
-    arities: &[u64],
-    words: &[u64],
-    counts: &[u64],
-    m: usize,
-    wins: &[u64],
-    out: &mut [u64],
-    work: &mut [u64],
-) -> usize
-    requires { ⌜ Writable (now arities) (now words) (now counts) (now wins) m (now out) (now work) ⌝ }
-    ensures { λ r. ⌜ Shortened (now (arities .entry)) (now (words .entry)) (now (wins .entry)) m (now (out .entry)) r (now (out .exit)) ⌝ }
-{
-    let Formed::Row(root, count) = keep(words, counts, m, wins, work) else {
-        return 0;
-    };
-    let mut marks = [0u16; diagram::SPACE_ROWS];
-    let mut order = [0u16; diagram::SPACE_ROWS];
-    let Listed::Rows(k) = write::write(work, count, root, &mut marks, &mut order, out) else {
-        return 0;
-    };
-    apart::close_up(arities, out, k);
-    k
 }
 
 // How many valuations v variables have over as many objects, v to the power of v, as far as one above the most runs.
@@ -680,7 +557,9 @@ fn reduce_plain(
     if formed > FORMED {
         return Reduced::Refused(Refusal::Combinations);
     }
-    let left = write_kept(arities, words, counts, m, &wins, out, work);
+    let mut edges = [0u8; pruning::EDGES];
+    find_edges(words, counts, m, &wins, &mut edges);
+    let left = pruning::prune(arities, words, &edges, out, work);
     Reduced::Done(left)
 }
 

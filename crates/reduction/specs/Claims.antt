@@ -1,14 +1,14 @@
 -- What the theorems on reductions say, in types.
 use mathlib.Core.Path.{_≡_}
 use mathlib.Core.Logic.{_⊎_}
-use mathlib.Core.Bool.{true, false, _||_}
+use mathlib.Core.Bool.{Bool, true, false, not, _&&_, _||_, Bool·beq}
 use mathlib.Core.List.{List, [], _∷_, List·Memᴰ}
 use Prim.Native.Nat.{ℕ, _≤_, _<_}
 use lib.ListN.{length}
 use lib.Dec.{ltb}
 use Rattle.refusal.specs.Outcome.{ok}
 use Rattle.diagram.specs.Sizes.{resultWords, spaceWords}
-use Rattle.diagram.specs.Diagram.{Diagram}
+use Rattle.diagram.specs.Diagram.{Diagram, same}
 use Rattle.diagram.specs.Words.{isListing}
 use Rattle.diagram.specs.Listing.{diagramOf, Good as Listed}
 use Rattle.diagram.specs.Variables.{isPlain, closed}
@@ -85,3 +85,9 @@ pub record Values (ar : List ℕ) (y : State → ℕ) (d : Diagram) : Type 0 whe
   pub is-closed : closed ar d ≡ d
   pub within : Within 0 (meaning ar d)
   pub numbers : (s : State) → Good s → Number s [] (meaning ar d) (y s)
+
+-- ===== Edges =====
+
+-- every edge but that of the row r on the side b
+unfoldable pub allBut : Diagram → Bool → Diagram → Bool → Bool
+allBut r b x c = not (same r x && Bool·beq b c)

@@ -1,7 +1,7 @@
--- Edges that go to leaf 0: no leaf rises, a path whose edges all stay is followed as before, and what is left has a listing.
+-- Edges that go to leaf 0: no leaf rises, a path whose edges all stay is followed as before, and what is left has a listing. In a cut one edge goes.
 use mathlib.Core.Path.{_≡_, refl, sym, ap, ap₂, _∙_, subst}
 use mathlib.Core.Logic.{_⊎_, inl, inr}
-use mathlib.Core.Bool.{Bool, true, false, cond, Bool·beq}
+use mathlib.Core.Bool.{Bool, true, false, not, _&&_, cond, Bool·beq}
 use mathlib.Core.List.{List, _∷_, map, List·Memᴰ, List·Memᴰ·head, List·Memᴰ·tail, List·Memᴰ·append-cases}
 use Prim.Native.Nat.{ℕ, suc, _≤_}
 use native.Mathlib.Omega.{arith}
@@ -19,6 +19,7 @@ use Rattle.cutting.specs.Cut.{reduced, cutAt}
 use Rattle.cutting.specs.Truth.{Follows}
 use Rattle.cutting.specs.ReduceLaws.{reduced-from, reduced-reduced, reduced-fine, cut-few}
 use Rattle.reduction.specs.Reduction.{isOn, keeping}
+use Rattle.reduction.specs.Claims.{allBut}
 use Rattle.reduction.specs.ListLaws.{someOf-in}
 
 -- a property of both is one of the one that is picked
@@ -162,3 +163,27 @@ pub reduced-every : (P : ℕ → Type 0) (d : Diagram) → EveryLabel P d → Ev
 unfolding reduced
 reduced-every P (leaf v) h = tt
 reduced-every P (branch l t f) h = every-node P l (reduced t) (reduced f) (h .0) (reduced-every P t (h .1)) (reduced-every P f (h .2))
+
+-- ===== A cut keeps every edge but one =====
+pick-not : (c : Bool) (x y : Diagram) → cond c x y ≡ cond (not c) y x
+pick-not true x y = refl
+pick-not false x y = refl
+
+same-true : (b : Bool) → b ≡ Bool·beq b true
+same-true true = refl
+same-true false = refl
+
+same-false : (b : Bool) → not b ≡ Bool·beq b false
+same-false true = refl
+same-false false = refl
+
+pub cut-keeping : (r : Diagram) (b : Bool) (d : Diagram) → cutAt r b d ≡ keeping (allBut r b) d
+unfolding cutAt keeping allBut
+cut-keeping r b (leaf v) = refl
+cut-keeping r b (branch l t f) = ap₂ (branch l) (edge b true (same-true b) t (cut-keeping r b t)) (edge (not b) false (same-false b) f (cut-keeping r b f))
+  where
+    edge : (x c : Bool) → x ≡ Bool·beq b c → (s : Diagram) → cutAt r b s ≡ keeping (allBut r b) s
+        → cond (same r (branch l t f) && x) (leaf 0) (cutAt r b s) ≡ cond (not (same r (branch l t f) && Bool·beq b c)) (keeping (allBut r b) s) (leaf 0)
+    edge x c q s e =
+        ap₂ (λ (y : Bool) (z : Diagram). cond (same r (branch l t f) && y) (leaf 0) z) q e
+        ∙ pick-not (same r (branch l t f) && Bool·beq b c) (leaf 0) (keeping (allBut r b) s)

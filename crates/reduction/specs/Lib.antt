@@ -28,12 +28,13 @@
 --   mostFormed == 100,000 (28)
 --   reduceAnswer == the diagram left, or the first of 17, 26, 27, 28
 --   hasParameter, reduceCall == a parameter is present; what the call on lent words answers: 14, 18, 6, then those
---   answerOf, bufferOf == what the call answers and leaves in the result buffer
+--   Reduced, answerOf, bufferOf == what the call answers and leaves in the result buffer
 --
 -- Definitions: what the theorems say
 --   Once, Sorted == each member of a list once; each in a relation to those behind it
 --   Lower, Sooner == the orders of valuations and of paths, from the first place where two differ
 --   AtLeast == a path has no place behind another
+--   allBut == every edge but one
 --   Clash == a fact that is both true and false
 --   Answered == none of 17, 26, 27 and 28 is met
 --   Called == nor 14, 18 and 6 by the call
@@ -46,6 +47,7 @@
 --   within-closed, closed-number: closing up adds no parameter and keeps the number
 --   maximums-variables, minimums-minimums: the variables of each kind by labels are those of what the diagram says (document 02, L12)
 --   closed-kinds, after-kinds: so closing up and moving apart are those of crate minimum, kind by kind
+--   cut-keeping: a cut keeps every edge but one
 --   reduced-few: at most 511 rows are left, so that 9 is never met
 --   answered: an answer is given only if none of 17, 26, 27 and 28 is met
 --   called: the call gives it only for a listing without parameters, with room for result and work

@@ -3,21 +3,21 @@ use Prim.Native.Nat.{_-_}
 use lib.ListN.{length}
 use native.Mathlib.Omega.{arith}
 use borrow.Author.Needs.{needs}
-use Rattle.reduce.specs.Keeping.{Keeping}
-use Rattle.reduce.proofs.KeepingLaws.{keep-place, keep-few, keep-full, keep-fits, keep-on, keep-end}
-use Rattle.reduce.proofs.keep_rows.Statement.{statement}
-use Rattle.reduce.proofs.keep_rows.Tie as tie
+use Rattle.pruning.specs.Keeping.{Keeping}
+use Rattle.pruning.proofs.KeepingLaws.{keep-place, keep-few, keep-full, keep-fits, keep-on, keep-end}
+use Rattle.pruning.proofs.keep_rows.Statement.{statement}
+use Rattle.pruning.proofs.keep_rows.Tie as tie
 
 abbrev Inv-loop : tie.InvT-loop
-Inv-loop words counts m wins space₀ heads₀ links₀ numbers₀ first n count₀ i₀ space heads links numbers count i =
+Inv-loop words edges space₀ heads₀ links₀ numbers₀ first n count₀ i₀ space heads links numbers count i =
     (length space ≡ length space₀) × (length heads ≡ length heads₀) × (length links ≡ length links₀) × (length numbers ≡ length numbers₀)
-    × Keeping words counts wins m space heads links numbers count i
+    × Keeping words edges space heads links numbers count i
 
 abbrev μ-loop : tie.MeasureT-loop
-μ-loop words counts m wins space₀ heads₀ links₀ numbers₀ first n count₀ i₀ space heads links numbers count i = n - i
+μ-loop words edges space₀ heads₀ links₀ numbers₀ first n count₀ i₀ space heads links numbers count i = n - i
 
 loop-holds : tie.Need-loop-holds Inv-loop μ-loop
-loop-holds c = (refl, refl, refl, refl, c .before .before .before .before .before .before .before .pre)
+loop-holds c = (refl, refl, refl, refl, c .before .before .before .before .before .before .pre)
 
 keep-row-requires : tie.Need-keep-row-requires Inv-loop μ-loop
 keep-row-requires c κs = (c .before .before .before .before .before .loop .inv .4, c .before .before .before .before .loop-test .taken)
@@ -68,15 +68,15 @@ loop-again c =
     (search needs, search needs, search needs, search needs, keep-on (loop .inv .4) (loop-test .taken) (keep-row .ensures) (c .before .r .given .1))
 
 sub-wide : tie.Need-sub-wide Inv-loop μ-loop
-sub-wide c = omega (arith, c .before .loop .inv .4 .won .routed .some)
+sub-wide c = omega (arith, c .before .loop .inv .4 .edged .some)
 
 mul-wide : tie.Need-mul-wide Inv-loop μ-loop
-mul-wide c = omega (arith, c .before .loop .inv .4 .won .routed .some, c .before .loop .inv .4 .won .routed .rows .few)
+mul-wide c = omega (arith, c .before .loop .inv .4 .edged .some, c .before .loop .inv .4 .edged .rows .few)
 
 slice-read-wide : tie.Need-slice-read-wide Inv-loop μ-loop
 slice-read-wide c =
     let loop = c .before .before .loop in
-    omega (arith, loop .inv .4 .won .routed .some, loop .inv .4 .won .routed .rows .few, loop .inv .4 .places)
+    omega (arith, loop .inv .4 .edged .some, loop .inv .4 .edged .rows .few, loop .inv .4 .places)
 
 returns-2 : tie.Need-returns-2 Inv-loop μ-loop
 returns-2 c = keep-end (c .before .before .before .loop .inv .4) (c .before .before .loop-test .left) (c .wide .ensures)

@@ -1,6 +1,6 @@
 -- Laws of `child`, `keep_row`, `keep_rows` and `keep`.
 use mathlib.Core.Path.{_≡_, refl, sym, ap, ap₂, subst, _∙_}
-use mathlib.Core.Bool.{Bool, true, false, cond}
+use mathlib.Core.Bool.{Bool, true, false, not, cond}
 use mathlib.Core.List.{List, [], _∷_}
 use Prim.Native.Nat.{ℕ, pred, _+_, _-_, _*_, _/_, _≤_, _<_}
 use native.Mathlib.Omega.{arith}
@@ -9,13 +9,14 @@ use mir.Syntax.{w16}
 use lib.ListN.{length, getD, set, replicate, length-set, length-append, length-replicate}
 use lib.Seq.{getD-set-same, getD-set-other}
 use lib.Dec.{eqb}
+use borrow.Author.Tests.{eq-eqb, ne-eqb}
 use Rattle.basics.specs.Tests.{Flag, isTrue, isFalse, flag, Cmp, cmp, below, equal, above}
 use Rattle.basics.specs.Members.{mem}
 use Rattle.label.specs.Limits.{leafMark}
 use Rattle.table.specs.Table.{buckets}
 use Rattle.table.proofs.TableLaws.{clean-made}
 use Rattle.diagram.specs.Sizes.{mostRows, spaceRows}
-use Rattle.diagram.specs.Diagram.{Diagram, leaf, branch, same}
+use Rattle.diagram.specs.Diagram.{Diagram, leaf, same}
 use Rattle.diagram.specs.Words.{labelAt, highAt, lowAt, rowCount}
 use Rattle.diagram.specs.Validity.{tree}
 use Rattle.diagram.specs.Shown.{Shown}
@@ -26,9 +27,9 @@ use Rattle.store.specs.declared.Formed.{Formed}
 use Rattle.store.specs.declared.Formed.the-variants.{Row, Full}
 use Rattle.store.specs.Space.{diagramsOf, Holds, Children, Formation}
 use Rattle.store.proofs.SpaceLaws.{length-diagrams, holds-none, formation-row, formation-full, formation-tree, formation-old}
-use Rattle.reduce.specs.Routing.{staysIn}
-use Rattle.reduce.specs.Keeping.{keptOf, Parent, Keeping, Keepable, Kept}
-use Rattle.reduce.specs.KeepingLaws.{kept-leaf, kept-branch}
+use Rattle.pruning.specs.Pruning.{keptOf, stays, staysIn}
+use Rattle.pruning.specs.Keeping.{Keeping, Keepable, Kept}
+use Rattle.pruning.specs.PruningLaws.{kept-leaf, stays-is, kept-row}
 
 -- forming a row makes at most one more
 add-most : (d : Diagram) (rs : List Diagram) → length (add d rs) ≤ length rs + 1
@@ -39,45 +40,22 @@ add-most d rs = go (flag (mem same d rs))
     go (isFalse e) = rw (add-new d rs e) (omega (arith, length-append rs (d ∷ [])))
 
 -- `child`
-module _ {ws counts wins numbers : List ℕ} {m i side : ℕ} (g : Parent ws counts wins numbers m i side) where
-  kids : (getD ws (i * 3 + 1) 0 < i) × (getD ws (i * 3 + 2) 0 < i)
-  unfolding labelAt highAt lowAt
-  kids = g .won .routed .rows .shown .kids i (g .edged .row) (g .branch)
+pub child-gone : {x : ℕ} (y : ℕ) → x ≡ 0 → 0 ≡ cond (eqb x 0) 0 y
+child-gone {x} y e = rw (eq-eqb x 0 e)
 
-  before : getD ws (i * 3 + side) 0 < i
-  before = go (cmp side 1)
-    where
-      go : Cmp side 1 → getD ws (i * 3 + side) 0 < i
-      go (below q) = absurd (omega (arith, g .edged .low))
-      go (equal q) = rw q (kids .0)
-      go (above q) = let z : side ≡ 2 = omega (arith, g .edged .high) in rw z (kids .1)
-
-  pub child-small : getD ws (i * 3 + side) 0 < mostRows
-  child-small = omega (arith, before, g .edged .row, g .won .routed .rows .few)
-
-  pub child-place : getD ws (i * 3 + side) 0 < length numbers
-  child-place = omega (arith, child-small, g .places)
-
-  abbrev Stays : Bool
-  Stays = staysIn ws wins m (tree ws i) (eqb side 1)
-
-  pub child-there : {b : Bool} {r : ℕ} → b ≡ Stays → b ≡ true → r ≡ getD numbers (getD ws (i * 3 + side) 0) 0
-      → r ≡ cond Stays (getD numbers (getD ws (i * 3 + side) 0) 0) 0
-  child-there e q z = z ∙ sym (ap (λ (b : Bool). cond b (getD numbers (getD ws (i * 3 + side) 0) 0) 0) (sym e ∙ q))
-
-  pub child-gone : {b : Bool} → b ≡ Stays → b ≡ false → 0 ≡ cond Stays (getD numbers (getD ws (i * 3 + side) 0) 0) 0
-  child-gone e q = sym (ap (λ (b : Bool). cond b (getD numbers (getD ws (i * 3 + side) 0) 0) 0) (sym e ∙ q))
+pub child-there : {x y r : ℕ} → (x ≡ 0 → ⊥) → r ≡ y → r ≡ cond (eqb x 0) 0 y
+child-there {x} e q = rw (ne-eqb x 0 e) q
 
 -- `keep_row`
-module _ {ws counts wins : List ℕ} {m : ℕ} {s heads links numbers : List ℕ} {count i : ℕ} (g : Keeping ws counts wins m s heads links numbers count i) (h : i < length ws / 3) where
+module _ {ws edges s heads links numbers : List ℕ} {count i : ℕ} (g : Keeping ws edges s heads links numbers count i) (h : i < length ws / 3) where
   abbrev S : Diagram → Bool → Bool
-  S = staysIn ws wins m
+  S = staysIn ws edges
 
   abbrev D : Diagram
   D = keptOf S (tree ws i)
 
   shown : Shown ws (rowCount ws) (tree ws)
-  shown = g .won .routed .rows .shown
+  shown = g .edged .rows .shown
 
   pub keep-leaf : {r : Formed} {s′ heads′ links′ : List ℕ} → getD ws (i * 3) 0 ≡ leafMark
       → Formation (leaf (getD ws (i * 3 + 1) 0)) (add (leaf (getD ws (i * 3 + 1) 0)) (diagramsOf s count)) r s′ heads′ links′
@@ -101,33 +79,38 @@ module _ {ws counts wins : List ℕ} {m : ℕ} {s heads links numbers : List ℕ
     unfolding labelAt highAt lowAt
     row-kids = shown .kids i h e
 
-    pub row-parent : (side : ℕ) → 1 ≤ side → side ≤ 2 → Parent ws counts wins numbers m i side
-    unfolding labelAt
-    row-parent side j k = record { won = g .won; edged = record { row = h; low = j; high = k }; branch = e; places = g .places }
+    pub row-edges : i * 2 + 1 < length edges
+    row-edges = omega (arith, g .edged .places)
 
-    is-branch : D ≡ node L (cond (S (tree ws i) true) (keptOf S (tree ws T)) (leaf 0)) (cond (S (tree ws i) false) (keptOf S (tree ws F)) (leaf 0))
+    pub row-high : T < length numbers
+    row-high = omega (arith, row-kids .0, g .edged .rows .few, g .places)
+
+    pub row-low : F < length numbers
+    row-low = omega (arith, row-kids .1, g .edged .rows .few, g .places)
+
+    is-branch : D ≡ node L (cond (stays edges i true) (keptOf S (tree ws T)) (leaf 0)) (cond (stays edges i false) (keptOf S (tree ws F)) (leaf 0))
     unfolding labelAt highAt lowAt
     is-branch =
-        let z : tree ws i ≡ branch L (tree ws T) (tree ws F) = shown .branches i h e in
-        ap (keptOf S) z ∙ kept-branch S L (tree ws T) (tree ws F)
-        ∙ ap (λ (x : Diagram). node L (cond (S x true) (keptOf S (tree ws T)) (leaf 0)) (cond (S x false) (keptOf S (tree ws F)) (leaf 0))) (sym z)
+        kept-row ws edges shown S i h e
+        ∙ ap₂ (λ (x y : Bool). node L (cond x (keptOf S (tree ws T)) (leaf 0)) (cond y (keptOf S (tree ws F)) (leaf 0)))
+        (stays-is ws edges shown i true h) (stays-is ws edges shown i false h)
 
     -- a child's place, or row 0
-    child-known : (b : Bool) (k r : ℕ) → k < i → r ≡ cond b (getD numbers k 0) 0 → (r < count) × (tree s r ≡ cond b (keptOf S (tree ws k)) (leaf 0))
-    child-known true k r l q = rw q (g .each k l)
-    child-known false k r l q = rw q (g .zero-there, g .zero-is)
+    child-known : (b : Bool) (k r : ℕ) → k < i → r ≡ cond b 0 (getD numbers k 0) → (r < count) × (tree s r ≡ cond (not b) (keptOf S (tree ws k)) (leaf 0))
+    child-known true k r l q = rw q (g .zero-there, g .zero-is)
+    child-known false k r l q = rw q (g .each k l)
 
-    module _ {high low : ℕ} (p : high ≡ cond (S (tree ws i) true) (getD numbers T 0) 0) (q : low ≡ cond (S (tree ws i) false) (getD numbers F 0) 0) where
-      high-known : (high < count) × (tree s high ≡ cond (S (tree ws i) true) (keptOf S (tree ws T)) (leaf 0))
-      high-known = child-known (S (tree ws i) true) T high (row-kids .0) p
+    module _ {high low : ℕ} (p : high ≡ cond (eqb (getD edges (i * 2) 0) 0) 0 (getD numbers T 0)) (q : low ≡ cond (eqb (getD edges (i * 2 + 1) 0) 0) 0 (getD numbers F 0)) where
+      high-known : (high < count) × (tree s high ≡ cond (stays edges i true) (keptOf S (tree ws T)) (leaf 0))
+      high-known = child-known (eqb (getD edges (i * 2) 0) 0) T high (row-kids .0) p
 
-      low-known : (low < count) × (tree s low ≡ cond (S (tree ws i) false) (keptOf S (tree ws F)) (leaf 0))
-      low-known = child-known (S (tree ws i) false) F low (row-kids .1) q
+      low-known : (low < count) × (tree s low ≡ cond (stays edges i false) (keptOf S (tree ws F)) (leaf 0))
+      low-known = child-known (eqb (getD edges (i * 2 + 1) 0) 0) F low (row-kids .1) q
 
       pub row-children : Children count L high low
       unfolding labelAt
       row-children = record {
-        label-below = let z = g .won .routed .rows .labels i h e in omega arith;
+        label-below = let z = g .edged .rows .labels i h e in omega arith;
         high-there = high-known .0;
         low-there = low-known .0;
       }
@@ -140,22 +123,22 @@ module _ {ws counts wins : List ℕ} {m : ℕ} {s heads links numbers : List ℕ
           subst (λ (d : Diagram). Formation d (add d (diagramsOf s count)) r s′ heads′ links′) z f
 
 -- `keep_rows`
-module _ {ws counts wins : List ℕ} {m : ℕ} {s heads links numbers : List ℕ} {count i : ℕ} (g : Keeping ws counts wins m s heads links numbers count i) where
+module _ {ws edges s heads links numbers : List ℕ} {count i : ℕ} (g : Keeping ws edges s heads links numbers count i) where
   module _ (h : i < length ws / 3) where
     pub keep-place : i < length numbers
-    keep-place = omega (arith, g .won .routed .rows .few, g .places)
+    keep-place = omega (arith, g .edged .rows .few, g .places)
 
     pub keep-few : i < mostRows
-    keep-few = omega (arith, g .won .routed .rows .few)
+    keep-few = omega (arith, g .edged .rows .few)
 
     abbrev E : Diagram
-    E = keptOf (staysIn ws wins m) (tree ws i)
+    E = keptOf (staysIn ws edges) (tree ws i)
 
     module _ {r : Formed} {s′ heads′ links′ : List ℕ} (f : Formation E (add E (diagramsOf s count)) r s′ heads′ links′) where
-      pub keep-full : r ≡ Full → Kept ws wins m Full s′
+      pub keep-full : r ≡ Full → Kept ws edges Full s′
       keep-full e =
           let z = formation-full (subst (λ (x : Formed). Formation E (add E (diagramsOf s count)) x s′ heads′ links′) e f) in
-          absurd (omega (arith, add-most E (diagramsOf s count), length-diagrams s count, g .few, g .won .routed .rows .few))
+          absurd (omega (arith, add-most E (diagramsOf s count), length-diagrams s count, g .few, g .edged .rows .few))
 
       module _ {j c : ℕ} (e : r ≡ Row j c) where
         there : Formation E (add E (diagramsOf s count)) (Row j c) s′ heads′ links′
@@ -170,9 +153,9 @@ module _ {ws counts wins : List ℕ} {m : ℕ} {s heads links numbers : List ℕ
         pub keep-fits : Fits w16 j
         keep-fits = omega (arith, at-row .0, there .holds .table .within)
 
-        pub keep-on : Keeping ws counts wins m s′ heads′ links′ (set numbers i j) c (i + 1)
+        pub keep-on : Keeping ws edges s′ heads′ links′ (set numbers i j) c (i + 1)
         keep-on = record {
-          won = g .won;
+          edged = g .edged;
           within = omega arith;
           places = rw length-set (g .places);
           holds = there .holds;
@@ -182,7 +165,7 @@ module _ {ws counts wins : List ℕ} {m : ℕ} {s heads links numbers : List ℕ
           each = λ x l. each x l (cmp x i);
         }
           where
-            each : (x : ℕ) → x < i + 1 → Cmp x i → (getD (set numbers i j) x 0 < c) × (tree s′ (getD (set numbers i j) x 0) ≡ keptOf (staysIn ws wins m) (tree ws x))
+            each : (x : ℕ) → x < i + 1 → Cmp x i → (getD (set numbers i j) x 0 < c) × (tree s′ (getD (set numbers i j) x 0) ≡ keptOf (staysIn ws edges) (tree ws x))
             each x l (below q) =
                 let o = g .each x q in
                 let w = old-row (getD numbers x 0) (o .0) in
@@ -190,9 +173,9 @@ module _ {ws counts wins : List ℕ} {m : ℕ} {s heads links numbers : List ℕ
             each x l (equal q) = rw (q, getD-set-same numbers i j 0 keep-place) at-row
             each x l (above q) = absurd (omega arith)
 
-  pub keep-end : {root : ℕ} → length ws / 3 ≤ i → root ≡ getD numbers (length ws / 3 - 1) 0 → Kept ws wins m (Row root count) s
+  pub keep-end : {root : ℕ} → length ws / 3 ≤ i → root ≡ getD numbers (length ws / 3 - 1) 0 → Kept ws edges (Row root count) s
   keep-end {root} h e =
-      let n = g .won .routed .some in
+      let n = g .edged .some in
       let p : length ws / 3 - 1 ≡ pred (rowCount ws) = omega arith in
       let o = g .each (length ws / 3 - 1) (omega arith) in
       record {
@@ -202,23 +185,23 @@ module _ {ws counts wins : List ℕ} {m : ℕ} {s heads links numbers : List ℕ
           answer = refl;
           there = rw e (o .0);
           within = g .holds .table .within;
-          is = ap (tree s) e ∙ o .1 ∙ ap (λ (x : ℕ). keptOf (staysIn ws wins m) (tree ws x)) p;
+          is = ap (tree s) e ∙ o .1 ∙ ap (λ (x : ℕ). keptOf (staysIn ws edges) (tree ws x)) p;
           written = g .holds .written;
         };
       }
 
 -- `keep`
-module _ {ws counts wins : List ℕ} {m : ℕ} {s : List ℕ} (g : Keepable ws counts wins m s) where
+module _ {ws edges s : List ℕ} (g : Keepable ws edges s) where
   pub keep-empty : (n₁ n₂ : ℕ) → buckets ≤ n₁ → spaceRows ≤ n₂ → Holds s (replicate n₁ 0) (replicate n₂ 0) 0
   keep-empty n₁ n₂ h l = holds-none s (replicate n₁ 0) (replicate n₂ 0) (omega (arith, g .room)) (rw length-replicate l) (clean-made n₁ h)
 
   module _ {r : Formed} {s′ heads′ links′ : List ℕ} (f : Formation (leaf 0) (add (leaf 0) (diagramsOf s 0)) r s′ heads′ links′) where
-    pub keep-nothing : r ≡ Full → Kept ws wins m Full s′
+    pub keep-nothing : r ≡ Full → Kept ws edges Full s′
     keep-nothing e =
         let z = formation-full (subst (λ (x : Formed). Formation (leaf 0) (add (leaf 0) (diagramsOf s 0)) x s′ heads′ links′) e f) in
         absurd (omega (arith, add-most (leaf 0) (diagramsOf s 0), length-diagrams s 0))
 
-    pub keep-start : {j c : ℕ} (n₃ : ℕ) → r ≡ Row j c → mostRows ≤ n₃ → Keeping ws counts wins m s′ heads′ links′ (replicate n₃ 0) c 0
+    pub keep-start : {j c : ℕ} (n₃ : ℕ) → r ≡ Row j c → mostRows ≤ n₃ → Keeping ws edges s′ heads′ links′ (replicate n₃ 0) c 0
     keep-start {j} {c} n₃ e l =
         let t = subst (λ (x : Formed). Formation (leaf 0) (add (leaf 0) (diagramsOf s 0)) x s′ heads′ links′) e f in
         let a = formation-row t in
@@ -226,7 +209,7 @@ module _ {ws counts wins : List ℕ} {m : ℕ} {s : List ℕ} (g : Keepable ws c
         let few : c ≤ 1 = omega (arith, a .2, add-most (leaf 0) (diagramsOf s 0), length-diagrams s 0) in
         let zero-j : j ≡ 0 = omega (arith, q .0) in
         record {
-          won = g .won;
+          edged = g .edged;
           within = omega arith;
           places = rw length-replicate l;
           holds = t .holds;

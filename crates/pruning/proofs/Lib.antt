@@ -1,0 +1,2 @@
+pub mod KeepingLaws
+pub mod PruneLaws
