@@ -14,10 +14,10 @@ use Rattle.diagram.specs.Diagram.{Diagram, leaf, branch, same, Ordered, Reduced
 use Rattle.diagram.specs.Canonicity.{from-ordered}
 use Rattle.diagram.specs.Listing.{Fine}
 use Rattle.diagram.specs.Rows.{rows}
+use Rattle.diagram.specs.RowLists.{size}
 use Rattle.diagram.specs.Variables.{closed}
 use Rattle.apply.specs.declared.Operation.the-variants.{Sum, Product}
 use Rattle.apply.specs.Apply.{node}
-use Rattle.apply.specs.Walk.{size}
 use Rattle.regression.specs.Calls.{form, combine}
 use Rattle.regression.specs.Step.{labelTest, testDiagram, exchanged, rowStep}
 use Rattle.reading.specs.Tree.{depth, opsOf}

@@ -6,6 +6,7 @@ use lib.ListN.{length, length-append}
 use Rattle.basics.specs.Tests.{Flag, isTrue, isFalse, flag}
 use Rattle.basics.specs.Members.{nub, mem-nub, nodup-nub, nodup-le}
 use Rattle.diagram.specs.Diagram.{Diagram, leaf, branch, same}
+use Rattle.diagram.specs.RowLists.{size}
 use Rattle.diagram.specs.DiagramLaws.{same-eq}
 use Rattle.apply.specs.declared.Operation.{Operation}
 use Rattle.apply.specs.declared.Operation.the-variants.{Sum}
@@ -13,7 +14,7 @@ use Rattle.apply.specs.Apply.{node}
 use Rattle.apply.specs.ApplyLaws.{node-same, node-differ}
 use Rattle.apply.specs.Pairs.{samePair, ends, pairs, pairCount}
 use Rattle.apply.specs.PairLaws.{pair-test, pairs-stop, pairs-step}
-use Rattle.apply.specs.Walk.{Below, Step, left, right, both, size}
+use Rattle.apply.specs.Walk.{Below, Step, left, right, both}
 
 count-most : (op : Operation) (a b : Diagram) → pairCount op a b ≤ length (pairs op a b)
 unfolding pairCount

@@ -1,6 +1,6 @@
 -- How many bytes an answer has at most, so that a buffer has room for it.
 use Prim.Native.Nat.{ℕ, zero, suc, _+_, _*_, _/_, _%_, _≤_}
-use mathlib.Core.Path.{_≡_, refl}
+use mathlib.Core.Path.{_≡_}
 use mathlib.Core.Bool.{Bool, true, false, cond}
 use mathlib.Core.List.{List, [], _∷_, _++_}
 use native.Mathlib.Omega.{arith}
@@ -199,21 +199,6 @@ counts-within table (suc n) g = omega (arith, length-append (countLines table n)
 -- a spread of at most 1,024 lines has no more bytes than 1,024 rows may have
 pub counts-short : (table : List ℕ) (n : ℕ) → ((i : ℕ) → IsWord (getD table i 0)) → n ≤ mostRows → length (countLines table n) ≤ mostBytes
 counts-short table n g h = omega (arith, counts-within table n g)
-
--- an answer that is no form and no spread has its bytes whatever these are
-pub plain-bytes : (ws form table : List ℕ) (a : Answer) → Plain a → answerBytes ws form table a ≡ answerBytes ws [] [] a
-unfolding answerBytes
-plain-bytes ws form table (Value v k s) p = refl
-plain-bytes ws form table (Backup k n) p = refl
-plain-bytes ws form table (Cut i e n) p = refl
-plain-bytes ws form table (Reduce n) p = refl
-plain-bytes ws form table (Refused r line) p = refl
-plain-bytes ws form table (Show n) p = refl
-plain-bytes ws form table (Text n) p = absurd p
-plain-bytes ws form table (Best k n a b c d) p = refl
-plain-bytes ws form table (Count n m) p = absurd p
-plain-bytes ws form table (Did n t) p = refl
-plain-bytes ws form table Nothing p = refl
 
 -- no answer but a form or a spread has more bytes than 1,024 rows may have
 pub answer-short : (ws form table : List ℕ) (a : Answer) → ((i : ℕ) → IsWord (getD ws i 0)) → OfWords a → Plain a → length (answerBytes ws form table a) ≤ mostBytes

@@ -1,8 +1,9 @@
 -- Whether lent words are a model's: a test that computes (document 01, sections 'Text' and 'Regression').
 --
 -- Definitions
+--   ownParameters == no parameter but those of the action
 --   isTruth, isWeight, isValue == the words are the listing of a truth diagram; of a weight; of a value diagram, as the reward is one
---   isInside == a listing's words lie within those in use
+--   isInside, truthAt == a listing's words lie within those in use; where the two words for a truth diagram stand
 --   truthFits, variantFits, actionFits, actionsFit == the test of a truth diagram in the table, of a variant, of an action, of the first actions
 --
 -- Theorems, in FittingLaws

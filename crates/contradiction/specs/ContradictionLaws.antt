@@ -6,7 +6,7 @@ use Prim.Native.Nat.{ℕ, _<_}
 use native.Mathlib.Omega.{arith}
 use lib.ListN.{length, getD, length-map}
 use lib.Dec.{eqb}
-use borrow.Author.Tests.{eqb-true, eqb-false, eq-eqb}
+use borrow.Author.Tests.{eqb-true, eqb-false, eq-eqb, not-true}
 use Rattle.basics.specs.Tests.{and-left, and-right, Flag, isTrue, isFalse, flag, Either, one, other, either, or-one, or-other, Cmp, cmp, below, equal, above}
 use Rattle.basics.specs.Members.{clash}
 use Rattle.label.specs.Limits.{termBase}
@@ -134,10 +134,6 @@ module _ (ar : List ℕ) (good : areArities ar ≡ true) (ls : List Literal) whe
           → Asked ar (predicateOf (m .label)) (map R (literalTerms ar m)) k → Contradicts ar ls
       go a (straight p q) = differ l m i j (sym (a .1) ∙ p) (one-agree ar ls (literalTerms ar l) (literalTerms ar m) (sym (a .2) ∙ q)) s f
       go a (across z p q) = absurd (omega (arith, a .0, a .1, p))
-
-  not-true : (b : Bool) → not b ≡ true → b ≡ false
-  not-true true e = sym e
-  not-true false e = refl
 
   clash-contradicts : (m : Literal) → List·Memᴰ m ls → clashes ar R ls m ≡ true → Contradicts ar ls
   unfolding clashes

@@ -10,7 +10,7 @@
 --
 -- Definitions: the value diagram as another session's reward
 --   valueLine == the line (reward FORM) of a session's value diagram
---   SameNames == a session in its model part without a reward, with the same constants and predicates in their order; CanTake == and room for the rows
+--   SameNames, CanTake == a session in its model part without a reward, with the same constants and predicates in their order; and room for the rows
 --   rewardWith == the reward line made of a form, in bytes
 --   ReadBack == what was printed is a form and a line feed, one line; the reward line made of the form is answered by nothing and leaves the very listing as the reward
 --

@@ -1,5 +1,5 @@
 -- Every line keeps a session's parts declared (document 01, section 'Text').
-use mathlib.Core.Path.{_≡_, refl, sym, ap, subst, _∙_}
+use mathlib.Core.Path.{_≡_, refl, sym, ap, subst}
 use mathlib.Core.Bool.{_||_, cond}
 use mathlib.Core.List.{List, [], _∷_, _++_}
 use mathlib.Core.Option.{some}
@@ -21,12 +21,9 @@ use Rattle.text.specs.declared.Kind.{Kind}
 use Rattle.text.specs.declared.Kind.the-variants as K
 use Rattle.text.specs.Line.{isBad}
 use Rattle.text.specs.LineForm.{lineKind}
-use Rattle.text.specs.LineLaws.{line-sound}
 use Rattle.events.specs.declared.Event.{Event}
-use Rattle.events.specs.Events.{firstWord, diagramEvents, wordsEvents}
-use Rattle.events.specs.Front.{eventsOf}
+use Rattle.events.specs.Events.{diagramEvents, wordsEvents}
 use Rattle.events.specs.Contents.{keyIn, wordAt}
-use Rattle.events.specs.LineEvents.{line-events}
 use Rattle.diagram.specs.Diagram.{Diagram}
 use Rattle.regression.specs.Regression.{Truths}
 use Rattle.regression.specs.RegressCall.{leafAbove}
@@ -52,12 +49,12 @@ use Rattle.session.specs.Declaring.{isDeclared, constantLine, Vocabulary, predi
 use Rattle.session.specs.ModelLines.{mostModelRows, namesFor, rowsWith, withReward, rewardRead, rewardLine, addVariant, noTruths, withVariant, weightRead, variantLine}
 use Rattle.session.specs.ModelLines.{withTruthAt, lastTruths, lastVariant, truthsNow, isSome, withTruth, truthRead, becomesLine, weighed}
 use Rattle.session.specs.Running.{withHeld, startLine, backupLine, CutDone, cutTo, cutLine, reduceLine}
-use Rattle.session.specs.Replies.{Reply, allowed, withNames, withVocabulary, withTotal, withDiscount, withAction, wordsOf, reply}
+use Rattle.session.specs.Replies.{Reply, withNames, withVocabulary, withTotal, withDiscount, withAction, wordsOf, reply}
 use Rattle.session.specs.Good.{GoodTables, GoodSession}
 use Rattle.model_laws.specs.ActionLaws.{length-more, every-more, withTruths}
 use Rattle.model_laws.specs.HeadLaws.{head-headed}
 use Rattle.session_laws.specs.PlaceLaws.{in-run}
-use Rattle.session_laws.specs.ReplyLaws.{Standing}
+use Rattle.session_laws.specs.ReplyLaws.{Standing, line-standing}
 use Rattle.session_laws.specs.RunLaws.{made-by}
 use Rattle.session_laws.specs.CaseLaws.{Cases, vocabularyOf, done-by, reply-by}
 use Rattle.declared.specs.Declares.{Declares, DeclaredVariant, DeclaredAction, NameKey, DeclaredSession}
@@ -370,17 +367,7 @@ module _ (σ : Session) (good : GoodSession σ) (h : DeclaredSession σ) where
     forDid = λ l e t. h;
   }
 
-  -- the events of a line that stands where it may are those of its tree
-  standing : (s : List ℕ) → allowed σ (ruleOf (lineKind s) (σ .part)) ≡ ok tt → Standing σ (lineKind s) (wordsOf (lineKind s) s)
-  standing s a = record {
-    place = a;
-    tree = λ b.
-        let k = lineKind s in
-        let x = line-sound s k refl b in
-        (x .0, x .1, ap (λ us. eventsOf (drop (firstWord k) us)) (x .2) ∙ line-events k (x .0) (x .1 .0));
-  }
-
   pub reply-declared : (number : ℕ) (s : List ℕ) → DeclaredSession (reply σ number s .session)
   reply-declared number s =
       let es = wordsOf (lineKind s) s in
-      reply-by σ number s (λ k y. DeclaredSession (y .session)) (λ e. h) (λ r. h) (λ a. done-by σ number es (Keeps σ es) (cases number es) (lineKind s) (standing s a))
+      reply-by σ number s (λ k y. DeclaredSession (y .session)) (λ e. h) (λ r. h) (λ a. done-by σ number es (Keeps σ es) (cases number es) (lineKind s) (line-standing σ s a))

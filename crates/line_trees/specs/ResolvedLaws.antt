@@ -29,13 +29,14 @@ use Rattle.reading.specs.declared.Binding.{Binding}
 use Rattle.reading.specs.declared.Binding.the-variants.{Any, None, Only}
 use Rattle.reading.specs.Reading.{Names, constantNumber, parameterNumber, met, Met, arguments, numberIn, variableNumber, minimumNumber, variableMet, minimumMet, isWithin}
 use Rattle.reading.specs.OutcomeLaws.{Match}
+use Rattle.reading.specs.OccurrenceLaws.{kept, keptMet, met-kept}
 use Rattle.reading.specs.Tree.{Reading, Result, having, resolveTerm, joined, resolveTerms, testing, resolveAtom, branching, resolveDiagram}
 use Rattle.reading.specs.Tree.Reading.{branch}
 use Rattle.session.specs.Session.{Session, refuseIf}
 use Rattle.session.specs.Facts.{predicateOf}
 use Rattle.session.specs.ModelLines.{namesFor}
 use Rattle.line_trees.specs.TreeReading.{atomTerms, diagramTerms, withOne, variablesAfter, termNumber, termNumbers, atomTest, diagramWords}
-use Rattle.line_trees.specs.VariableLaws.{extends, number-exact, kept, keptMet, met-kept, within-kept, met-numbered}
+use Rattle.line_trees.specs.VariableLaws.{extends, number-exact, within-kept, met-numbered}
 
 -- ===== Two answers that agree =====
 

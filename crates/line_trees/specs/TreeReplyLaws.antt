@@ -32,6 +32,7 @@ use Rattle.reading.specs.declared.Binding.the-variants.{Any, None, Only}
 use Rattle.reading.specs.Reading.{Names as ReadingNames, Met, arguments, Written, reading}
 use Rattle.reading.specs.Numbering.{rewardReading}
 use Rattle.reading.specs.Head.{headNumber, openedNumber, headArguments}
+use Rattle.reading.specs.OccurrenceLaws.{keptMet}
 use Rattle.build.specs.Build.{textDiagram, rewardDiagram}
 use Rattle.build.specs.Machine.{mostTests, built, builtClosed}
 use Rattle.build.specs.MachineLaws.{built-text, built-reward}
@@ -48,7 +49,7 @@ use Rattle.session.specs.Replaying.{didLine}
 use Rattle.session.specs.Replies.{Reply, allowed, refusal, quietly, didSays, done, placed, replyTo, wordsOf, reply}
 use Rattle.line_trees.specs.TreeReading.{firstVariables, rewardVariables, readTree}
 use Rattle.line_trees.specs.TreeReplies.{rewardTree, weightTree, truthTree, treeDone, treeReply}
-use Rattle.line_trees.specs.VariableLaws.{keptMet, reading-kept, diagram-keys}
+use Rattle.line_trees.specs.VariableLaws.{reading-kept, diagram-keys}
 use Rattle.line_trees.specs.ResolvedLaws.{reads-none, reads-only, reads-any}
 use Rattle.line_trees.specs.TreeReadLaws.{read-built}
 use Rattle.line_trees.specs.TreeHeadLaws.{head-tree}

@@ -7,9 +7,9 @@ use Prim.Native.Nat.{ℕ, suc, _+_, _≤_, _<_}
 use native.Mathlib.Omega.{arith}
 use native.Mathlib.Decide.{decLt}
 use lib.Dec.{leb}
-use lib.ListN.{length, take, length-append}
-use lib.Seq.{length-take-le, take-all, take-append-le}
-use borrow.Author.Tests.{ltb-true, lt-ltb, le-leb, lt-leb}
+use lib.ListN.{length, length-append}
+use lib.Seq.{length-take-le, take-all}
+use borrow.Author.Tests.{ltb-true, lt-ltb, lt-leb}
 use Rattle.basics.specs.Tests.{Flag, isTrue, isFalse, flag}
 use Rattle.label.specs.Limits.{variableCount}
 use Rattle.words.specs.Keys.{keyOf}
@@ -27,9 +27,10 @@ use Rattle.events.specs.Events.{termEvent, atomEvents, diagramEvents}
 use Rattle.reading.specs.declared.Binding.the-variants.{Any}
 use Rattle.reading.specs.declared.Kind.{Kind}
 use Rattle.reading.specs.declared.Kind.the-variants as K
-use Rattle.reading.specs.Reading.{Names, met, Met, numberIn, isWithin, reading}
+use Rattle.reading.specs.Reading.{Names, Met, numberIn, isWithin, reading}
 use Rattle.reading.specs.Occurrences.{variableOf, wordKeys, keysOf}
 use Rattle.reading.specs.Numbering.{variablesFirst, metFirst}
+use Rattle.reading.specs.OccurrenceLaws.{kept, keptMet}
 use Rattle.reading.specs.NumberingLaws.{reading-many}
 use Rattle.reading.specs.NumberingLaws.Over.{variables, minimums}
 use Rattle.line_trees.specs.TreeReading.{atomTerms, diagramTerms, withOne, variablesAfter, termKeys, firstVariables}
@@ -100,37 +101,7 @@ pub number-exact : (first : ℕ) (vs : List Key) (k : Key) → length vs ≤ var
 unfolding numberIn
 number-exact first vs k few h = ap (λ (i : ℕ). first + i) (omega arith)
 
--- the pass keeps this many of a kind
-abbrev pub kept : List Key → List Key
-kept us = take (suc variableCount) us
-
-abbrev pub keptMet : Met → Met
-keptMet m = record { variables = kept (m .variables); minimums = kept (m .minimums) }
-
-pick-same : (b : Bool) (x : List Key) → cond b x x ≡ x
-pick-same true x = refl
-pick-same false x = refl
-
-pub met-kept : (us : List Key) (k : Key) → met Any (kept us) k ≡ kept (withOne us k)
-unfolding met
-met-kept us k = go (decLt (length us) (suc variableCount))
-  where
-    by-test : (b : Bool) → length us < suc variableCount → cond b us (us ++ (k ∷ [])) ≡ kept (cond b us (us ++ (k ∷ [])))
-    by-test true h = sym (take-all (suc variableCount) us (omega arith))
-    by-test false h = sym (take-all (suc variableCount) (us ++ (k ∷ [])) (omega (arith, length-append us (k ∷ []))))
-
-    full : (b : Bool) → suc variableCount ≤ length us → kept us ≡ kept (cond b us (us ++ (k ∷ [])))
-    full true h = refl
-    full false h = sym (take-append-le (suc variableCount) us (k ∷ []) h)
-
-    go : Dec (length us < suc variableCount)
-        → cond (isAmong k (kept us)) (kept us) (cond (leb (length (kept us)) variableCount) (kept us ++ (k ∷ [])) (kept us)) ≡ kept (withOne us k)
-    go (yes h) = rw (take-all (suc variableCount) us (omega arith), le-leb (length us) variableCount (omega arith)) (by-test (isAmong k us) h)
-    go (no h) =
-        let l : suc variableCount ≤ length us = omega arith in
-        rw (length-take-le (suc variableCount) us l) (pick-same (isAmong k (kept us)) (kept us) ∙ full (isAmong k us) l)
-
--- and their count against the limit is that of all
+-- the count of those that the pass keeps against the limit is that of all
 count-kept : (us : List Key) → leb (length (kept us)) variableCount ≡ leb (length us) variableCount
 count-kept us = go (decLt (length us) (suc variableCount))
   where

@@ -28,6 +28,7 @@
 --   nothingTrue, isNought, stockAtHub == its two states
 --   shown, eightModel, ab, ba == what (value) prints; the model and the labels of other marked cases
 --   aa, linked, pairModel == a model for what a cut misses and a reduction finds
+--   bb, pathToZero == a diagram with a winning path to leaf 0
 --
 -- Theorems
 --   demand-3: after any list of backups, cuts and reductions, refused ones among them, the value diagram's number is Mk in every state, whatever variables the reward has
@@ -37,6 +38,7 @@
 --   value-is: so the number that valuing answers after a run is Mk of the lent state
 --   table: the ten marked cases, by computation
 --   table-reduction: a diagram that a cut leaves alone (16) and a reduction shortens, by computation
+--   table-path-to-zero: a reduction leaves the winning path to leaf 0, by computation
 --   table-minimum: a max with shared names done apart, 25, 26 and a backup, of diagrams with a minimum variable, by computation
 --   run-rows: the rows that document 01's run shows after its backup, with the numbers of document 02, L8
 --   run-labels: the labels of document 01's run have the numbers of document 02, L8

@@ -1,15 +1,14 @@
 -- The laws of the definitions, one for each case, as code meets them.
-use mathlib.Core.Path.{_≡_, refl, ap, sym, _∙_}
+use mathlib.Core.Path.{_≡_, refl, ap}
 use mathlib.Core.Bool.{Bool, true, false, _||_, cond}
 use mathlib.Core.List.{List, [], _∷_}
 use Prim.Native.Nat.{ℕ, suc, _+_, _-_, _^_, _≤_, _<_}
 use native.Mathlib.Omega.{arith}
-use native.Mathlib.Nat.{pow-zero}
 use lib.Dec.{ltb, eqb}
 use borrow.Author.Tests.{ltb-false, eqb-false}
 use Rattle.refusal.specs.declared.Refusal.{Refusal}
 use Rattle.refusal.specs.declared.Refusal.the-variants.{Scale}
-use Rattle.refusal.specs.Outcome.{Outcome, ok, refused, andThen}
+use Rattle.refusal.specs.Outcome.{ok, refused, andThen}
 use Rattle.basics.specs.Tests.{Flag, isTrue, isFalse, flag}
 use Rattle.basics.specs.Members.{clash}
 use Rattle.label.specs.Limits.{firstParameter, parameterCount}
@@ -31,10 +30,9 @@ use Rattle.regression.specs.FreeCallLaws.{own-freed}
 use Rattle.cutting.specs.declared.Edge.{Edge}
 use Rattle.cutting.specs.declared.Cut.the-variants.{Done as CutDone, Refused as CutRefused}
 use Rattle.cutting.specs.Cut.{cutDiagram, isTrueEdge, diagramAnswer as cutAnswer}
-use Rattle.reduction.specs.Reduction.{reduceAnswer}
 use Rattle.mdp.specs.Model.{Variant, Action, Model, scale}
 use Rattle.mdp.specs.Backup.{combined, variantsSum, actionsBest, rowOfCalls, highestScale, mostSteps, scaleEnds, backup}
-use Rattle.mdp.specs.Runs.{Call, aBackup, aCut, aReduce, Held, cutOutcome, taken, call, runFrom, begin, run}
+use Rattle.mdp.specs.Runs.{aBackup, Held, cutOutcome, taken, call}
 use Rattle.mdp.specs.CallLaws.{each-within}
 
 -- ===== Combination and freeing =====
@@ -117,48 +115,3 @@ module _ (m : Model) where
   pub call-backup : (h : Held) → call m aBackup h ≡ taken h (backup m (h .steps) (h .diagram)) (suc (h .steps))
   unfolding call
   call-backup h = refl
-
-  pub call-reduce : (h : Held) → call m aReduce h ≡ taken h (reduceAnswer (m .arities) (h .diagram)) (h .steps)
-  unfolding call
-  call-reduce h = refl
-
-  pub run-none : (h : Held) → runFrom m [] h ≡ h
-  unfolding runFrom
-  run-none h = refl
-
-  pub run-next : (c : Call) (l : List Call) (h : Held) → runFrom m (c ∷ l) h ≡ runFrom m l (call m c h)
-  unfolding runFrom
-  run-next c l h = refl
-
--- ===== k and S^k stay in their ranges =====
-
-pub record InRange (m : Model) (k : ℕ) : Type 0 where
-  pub steps : k ≤ mostSteps
-  pub power : scale m ^ k ≤ highestScale
-
-range-taken : (m : Model) (h : Held) (o : Outcome Diagram) (k : ℕ) → InRange m (h .steps) → ((d : Diagram) → o ≡ ok d → InRange m k) → InRange m (taken h o k .steps)
-range-taken m h (ok d) k r a = a d refl
-range-taken m h (refused e) k r a = r
-
-range-call : (m : Model) (c : Call) (h : Held) → InRange m (h .steps) → InRange m (call m c h .steps)
-unfolding call
-range-call m aCut h r = range-taken m h (cutOutcome (m .arities) (h .diagram)) (h .steps) r (λ d e. r)
-range-call m aReduce h r = range-taken m h (reduceAnswer (m .arities) (h .diagram)) (h .steps) r (λ d e. r)
-range-call m aBackup h r = range-taken m h (backup m (h .steps) (h .diagram)) (suc (h .steps)) r (λ d e. go d e (flag (scaleEnds m (h .steps))))
-  where
-    go : (d : Diagram) → backup m (h .steps) (h .diagram) ≡ ok d → Flag (scaleEnds m (h .steps)) → InRange m (suc (h .steps))
-    go d e (isTrue q) = let f = sym (backup-ends m (h .steps) (h .diagram) q) ∙ e in let z : _≡_ {A = ℕ} 0 1 = cc in absurd (omega arith)
-    go d e (isFalse q) =
-        let o = on-scale m (h .steps) q in
-        let u = r .steps in
-        let v = o .1 in
-        record { steps = omega arith; power = o .0 }
-
-range-run : (m : Model) (l : List Call) (h : Held) → InRange m (h .steps) → InRange m (runFrom m l h .steps)
-unfolding runFrom
-range-run m [] h r = r
-range-run m (c ∷ l) h r = range-run m l (call m c h) (range-call m c h r)
-
-pub run-range : (m : Model) (l : List Call) → InRange m (run m l .steps)
-unfolding run begin
-run-range m l = range-run m l (begin m) (record { steps = omega arith; power = omega (arith, pow-zero (scale m)) })

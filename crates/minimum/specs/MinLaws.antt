@@ -51,15 +51,6 @@ minTo-is (suc n) f h = record {
   bound = minTo-bound n f;
 }
 
-module _ {X : Type 0} {P : X → Type 0} {f : X → ℕ} where
-  pub min-one : {x y : ℕ} → IsMin P f x → IsMin P f y → x ≡ y
-  min-one {x} {y} m k =
-      let a = m .bound (k .point) (k .inside) in
-      let b = k .bound (m .point) (m .inside) in
-      let c = m .value in
-      let d = k .value in
-      omega arith
-
 -- ===== Maxima of minima =====
 
 -- a choice whose answers are all at least x, where every choice has one of at most x: so x is attained

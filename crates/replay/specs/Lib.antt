@@ -2,6 +2,7 @@
 --
 -- Definitions: one line
 --   Did, actionOf, variantOf == (did action variant object ..), its names found; the action and the variant that it names
+--   noAction, noVariant == what stands for a number that names none
 --   Replay, inHand, begun == the state as it is lent, count and total; the state in hand; count 0 and total 0
 --   rowsAt, factRows, flat, factsOf == the facts of a state as rows, predicate by predicate, lowest objects first
 --   stateNext, movedBy == the state that the variant's truth diagrams give; it, in hand

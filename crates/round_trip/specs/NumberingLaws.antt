@@ -4,8 +4,7 @@ use mathlib.Core.Bool.{Bool, true, false, cond, not, _&&_, _||_}
 use mathlib.Core.List.{List, [], _∷_, _++_, map, append-nil, append-assoc}
 use Prim.Native.Nat.{ℕ, suc, _+_, _-_, _*_, _/_, _%_, _≤_, _<_}
 use native.Mathlib.Omega.{arith}
-use lib.ListN.{length, getD, take, drop}
-use lib.Seq.{take-length}
+use lib.ListN.{length, getD, drop}
 use lib.Dec.{eqb, ltb}
 use borrow.Author.Tests.{ltb-true, ltb-false, lt-ltb, le-ltb, eqb-true, eq-eqb, ne-eqb, not-true}
 use Rattle.basics.specs.Tests.{Flag, isTrue, isFalse, flag, Either, one, other, either, or-one, or-other, and-left, and-right, Cmp, below, equal, above, cmp}
@@ -25,12 +24,11 @@ use Rattle.rename.specs.VariableLaws.{occurs-term, variable-occurs, occurs-vari
 use Rattle.words.specs.Bytes.{isDigit, run, decimalFrom, decimal}
 use Rattle.words.specs.ByteLaws.{digit-range}
 use Rattle.words.specs.Words.{IsName, IsNumber, numberForm}
-use Rattle.words.specs.WordLaws.{number-sound, number-complete}
+use Rattle.words.specs.WordLaws.{number-complete}
 use Rattle.words.specs.Keys.{keyOf, nameOf}
 use Rattle.words.specs.KeyLaws.{name-of}
 use Rattle.words.specs.declared.Key.{Key}
-use Rattle.words.specs.declared.Took.{Took}
-use Rattle.words.specs.declared.Took.the-variants.{Bytes, Refused}
+use Rattle.words.specs.declared.Took.the-variants.{Bytes}
 use Rattle.forms.specs.Tree as T
 use Rattle.forms.specs.Tree.Mark.{plain, variable, minimum}
 use Rattle.forms.specs.Tree.Term.{term}
@@ -40,6 +38,7 @@ use Rattle.answers.specs.Digits.{digits}
 use Rattle.answers.specs.DigitLaws.{digits-one, digits-more, digits-read, digits-number}
 use Rattle.reading.specs.Reading.{Met}
 use Rattle.reading.specs.Numbering.{takes, isNumbered, numberOf, allNumbered, inserted as insertedKey, byNumber, variablesFirst, metFirst}
+use Rattle.reading.specs.NumberingLaws.{numbered-number}
 use Rattle.line_trees.specs.TreeReading.{atomTerms, diagramTerms, termKeys}
 use Rattle.line_trees.specs.VariableLaws.{diagram-keys}
 use Rattle.diagram_form.specs.Form.{Tables, variableName, termTree, atomTree, formTree}
@@ -130,15 +129,6 @@ is-number s g =
     let e : numberForm s ≡ Bytes (length s) = ap numberForm (sym (append-nil s)) ∙ number-complete s [] g refl in
     rw e (eq-eqb (length s) (length s) refl)
 
-number-is : (s : List ℕ) → takes (length s) (numberForm s) ≡ true → IsNumber s
-number-is s = go (numberForm s) refl
-  where
-    go : (t : Took) → numberForm s ≡ t → takes (length s) t ≡ true → IsNumber s
-    go (Bytes n) q f =
-        let z : n ≡ length s = eqb-true n (length s) f in
-        subst (λ (x : List ℕ). IsNumber x) (ap (λ (m : ℕ). take m s) z ∙ take-length s) (number-sound s q)
-    go Refused q f = clash f refl
-
 -- the digits of a number, and digits behind them
 digits-behind : (s : List ℕ) (v : ℕ) → 0 < v → run isDigit s ≡ length s → digits (decimalFrom v s) ≡ digits v ++ s
 unfolding decimalFrom run
@@ -203,10 +193,9 @@ pub numbered-exact : (n : List ℕ) → isNumbered n ≡ true → n ≡ variable
 unfolding isNumbered numberOf variableName
 numbered-exact [] e = clash e refl
 numbered-exact (b ∷ m) e =
-    let h : b ≡ 118 = eqb-true b 118 (and-left _ _ e) in
-    let t : takes (length m) (numberForm m) ≡ true = and-right (eqb b 118) _ e in
-    ap (λ (x : ℕ). x ∷ m) h
-    ∙ ap (λ (s : List ℕ). 118 ∷ s) (sym (number-digits m (number-is m t)))
+    let h = numbered-number (b ∷ m) e in
+    ap (λ (x : ℕ). x ∷ m) (h .0)
+    ∙ ap (λ (s : List ℕ). 118 ∷ s) (sym (number-digits m (h .1)))
     ∙ ap (λ (c : Bool). 118 ∷ digits (cond c (decimal m) 0)) (sym e)
 
 every-numbered : (xs : List ℕ) → every isNumbered (map variableName xs) ≡ true

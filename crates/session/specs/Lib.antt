@@ -36,7 +36,7 @@
 --   reduceLine == (reduce) (document 02, L13)
 --   tablesIn, formRead == (text): the names declared; how many bytes the value has as a form, or 19 (document 02, L2)
 --   bestRead, noKey, bestIs == (best): the move, or what refuses it; the action's name and its objects (document 02, L9)
---   variantNamesFrom, variantNames, didOf, replayIn, replayed, didLine == (did action variant object ..): names found, 2, 3, 2, 4, then what replay says (document 02, L10)
+--   variantNamesFrom, variantNames, didOf, replayIn, replayed, didTo, didLine == (did action variant object ..): names found, 2, 3, 2, 4, then what replay says (document 02, L10)
 --   entriesIn, countRead == (count n): the entries of all states of n objects; 4, 24 and 15 before them (document 02, L11)
 --
 -- Definitions: replies

@@ -1,7 +1,7 @@
 -- Blank lines: each leaves the session as it was and prints nothing, and taking them out of a text changes no answer but the line numbers of refusals
 -- (document 02, L1).
 use mathlib.Core.Path.{_≡_, refl, sym, ap, ap₂, _∙_}
-use mathlib.Core.Bool.{Bool, true, false, cond, _||_}
+use mathlib.Core.Bool.{Bool, true, false, cond, _||_, or-false}
 use mathlib.Core.List.{List, [], _∷_, _++_}
 use Prim.Native.Nat.{ℕ, suc}
 use lib.ListN.{length, drop}
@@ -108,10 +108,6 @@ lines-under σ n m ((b ∷ l) ∷ ls) =
 record Alike (p q : Progress) : Type 0 where
   session : p .session ≡ q .session
   met : p .met ≡ q .met
-
-or-false : (b : Bool) → (b || false) ≡ b
-or-false true = refl
-or-false false = refl
 
 alike-blank : (p q : Progress) → Alike p q → Alike (afterLine p []) q
 unfolding afterLine

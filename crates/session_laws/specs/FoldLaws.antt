@@ -85,7 +85,7 @@ lines-then (b ∷ t) u e = go (eqb b lineFeed) (linesOf t .whole) (linesOf t .re
     go false [] r e ih = absurd (omega (arith, ap length e))
     go false (l ∷ ls) r e ih = ap (λ (y : Lines). behindByte b (y .whole) (y .rest)) (ih e)
 
-after-then : (p : Progress) (ls ms : List (List ℕ)) → afterLines p (ls ++ ms) ≡ afterLines (afterLines p ls) ms
+pub after-then : (p : Progress) (ls ms : List (List ℕ)) → afterLines p (ls ++ ms) ≡ afterLines (afterLines p ls) ms
 unfolding afterLines
 after-then p [] ms = refl
 after-then p (l ∷ ls) ms = after-then (afterLine p l) ls ms

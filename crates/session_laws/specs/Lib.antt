@@ -2,6 +2,7 @@
 -- and L13).
 --
 -- Definitions: a line
+--   valueLine == the line (value) in bytes
 --   Makes, MovesTo == the session behind an accepted line that prints nothing, kind by kind: a line of the model, (start), (objects), (is), (true)
 --   didRead, Answered == the state in hand behind a (did ..); the reply to an accepted line is of its kind; (value), (show), (text), (best) and (count n) leave the
 --       session, (did ..) moves the state in hand alone
@@ -20,7 +21,9 @@
 --
 -- Definitions: the run behind lines
 --   callOf, callThen, callsOf == the backups, cuts and reductions that lines ask for, in order, accepted or refused
+--   movesState, NoStateLine == the kinds of lines that change the state in hand; none of the lines is of them
 --   isRefused, oneIfBackup, acceptedBackup, acceptedBackups == how many of the lines, with their replies, are accepted (backup) lines
+--   tooLarge == no way of working may be taken for the value diagram in the state in hand
 --   HoldsValues == in every state the number of the value diagram is Mk
 --   RunOf == the model is the one accepted at (start); value diagram and k are those of a run of it, of the very backups, cuts and reductions asked for behind it;
 --            k counts the accepted (backup) lines; HoldsValues
@@ -34,6 +37,7 @@
 --   reply-short: a reply of machine words has at most 92,160 bytes, a form or a spread too; best-words, count-words, did-words: those of (best),
 --       (count n) and (did ..) are such
 --   done-bare, reply-bare: only (count n) shows a table
+--   text-line: the reply to a line is that of the session that the lines before it lead to, under the line's own number, from 1
 --   text-bytes: a text's answers are those of its lines, one after another; read-then: a text that ends with a line feed, and one behind it, are read one after another
 --   blank-leaves: a blank line prints nothing and leaves the session as it was
 --   spacing: blank lines move the line numbers of refusals and change no other answer (document 02, L1)
@@ -51,10 +55,10 @@
 --   did-good: (did action variant object ..): its next state can be lent, count and total are at most 10^18; did-read: what an accepted one has passed (document 02, L10)
 --   start-good: (start); backup-good: (backup); cut-good: (cut); reduce-good: (reduce)
 --   call-good: a backup, a cut or a reduction leaves a good value diagram
+--   line-keeps, lines-keep: in the run, names and model stay; the state in hand, value diagram and k where no line changes them
 --   reply-counted: every line keeps `rows` the sum of the rows of all model listings
 --   best-bound: a move answered has an object of the state for each parameter of its action; entries-few, entries-words: of the entries counted
 --   text-sound: so behind any lines a session is good, its facts are whole rows and `rows` is that sum
---   kept-good: every line keeps a session good that is kept in lent words
 
 pub mod LineAnswers
 pub mod TextReplies
@@ -69,9 +73,9 @@ pub mod RunLaws
 pub mod CaseLaws
 pub mod MadeLaws
 pub mod ReplyLaws
+pub mod KeepLaws
 pub mod WholeLaws
 pub mod CountLaws
-pub mod MemoryLaws
 pub mod AnswerLaws
 pub mod MoveLaws
 pub mod EntryLaws

@@ -16,7 +16,8 @@ use Rattle.best.specs.Moves.{Move, actionAt}
 use Rattle.spread.specs.Spread.{Entry}
 use Rattle.text.specs.declared.Kind.{Kind}
 use Rattle.text.specs.declared.Kind.the-variants as K
-use Rattle.text.specs.Line.{mostLineBytes}
+use Rattle.text.specs.Line.{lineBytes, mostLineBytes}
+use Rattle.text.specs.Line.Line.{line}
 use Rattle.diagram_form.specs.Form.{isTooLong}
 use Rattle.events.specs.declared.Event.{Event}
 use Rattle.events.specs.Contents.{keyIn, numberIn, wordAt, keysIn, numbersIn}
@@ -37,6 +38,10 @@ use Rattle.session.specs.Texts.{valueForm, tableOf, replyBytes}
 -- the outcome is accepted, and the session is made of it
 abbrev pub Makes : {A : Type 0} → Outcome A → (A → Session) → Session → Type 0
 Makes {A} o f τ = (a : A) × (o ≡ ok a) × (τ ≡ f a)
+
+-- the line (value), in bytes
+abbrev pub valueLine : List ℕ
+valueLine = lineBytes (line K.Value tt)
 
 -- τ is the session behind an accepted line of the kind k with the words es, one that prints nothing: a line of the model, (start), (objects), (is) or (true)
 abbrev pub MovesTo : Session → List Event → Kind → Session → Type 0

@@ -41,6 +41,16 @@ pub record Standing (σ : Session) (k : Kind) (es : List Event) : Type 0 where
   pub place : allowed σ (ruleOf k (σ .part)) ≡ ok tt
   pub tree : isBad k ≡ false → (w : Words k) × GoodLine (line k w) × (es ≡ wordsEvents k w)
 
+-- the events of a line that stands where it may are those of its tree
+pub line-standing : (σ : Session) (s : List ℕ) → allowed σ (ruleOf (lineKind s) (σ .part)) ≡ ok tt → Standing σ (lineKind s) (wordsOf (lineKind s) s)
+line-standing σ s a = record {
+  place = a;
+  tree = λ h.
+      let k = lineKind s in
+      let x = line-sound s k refl h in
+      (x .0, x .1, ap (λ b. eventsOf (drop (firstWord k) b)) (x .2) ∙ line-events k (x .0) (x .1 .0));
+}
+
 abbrev KeepsGood : Session → List Event → Kind → Reply → Type 0
 KeepsGood σ es k y = Standing σ k es → GoodSession (y .session)
 
@@ -100,16 +110,6 @@ module _ (σ : Session) (g : GoodSession σ) (whole : WholeRows (σ .live .facts
   pub done-good : (number : ℕ) (k : Kind) (es : List Event) → Standing σ k es → GoodSession (done σ number k es .session)
   done-good number k es = done-by σ number es (KeepsGood σ es) (cases number es) k
 
-  -- the events of an accepted line are those of its tree
-  line-standing : (s : List ℕ) → allowed σ (ruleOf (lineKind s) (σ .part)) ≡ ok tt → Standing σ (lineKind s) (wordsOf (lineKind s) s)
-  line-standing s a = record {
-    place = a;
-    tree = λ h.
-        let k = lineKind s in
-        let x = line-sound s k refl h in
-        (x .0, x .1, ap (λ b. eventsOf (drop (firstWord k) b)) (x .2) ∙ line-events k (x .0) (x .1 .0));
-  }
-
   pub reply-good : (number : ℕ) (s : List ℕ) → GoodSession (reply σ number s .session)
   reply-good number s =
-      reply-by σ number s (λ k y. GoodSession (y .session)) (λ e. g) (λ r. g) (λ a. done-good number (lineKind s) (wordsOf (lineKind s) s) (line-standing s a))
+      reply-by σ number s (λ k y. GoodSession (y .session)) (λ e. g) (λ r. g) (λ a. done-good number (lineKind s) (wordsOf (lineKind s) s) (line-standing σ s a))

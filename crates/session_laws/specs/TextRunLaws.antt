@@ -39,9 +39,10 @@ use Rattle.session.specs.Replies.{Reply, silent, allowed, withVocabulary, withT
 use Rattle.session.specs.Texts.{hasBytes, Progress, replied, afterLine, afterLines, beginning}
 use Rattle.session_laws.specs.TextReplies.{replies}
 use Rattle.session_laws.specs.TextRuns.{callOf, callThen, callsOf, isRefused, oneIfBackup, acceptedBackup, acceptedBackups, RunOf, HoldsValues}
-use Rattle.session_laws.specs.PlaceLaws.{model-run, in-model, in-run}
+use Rattle.session_laws.specs.PlaceLaws.{model-run, in-run}
 use Rattle.session_laws.specs.RunLaws.{made-by}
 use Rattle.session_laws.specs.CaseLaws.{Cases, done-by, reply-by}
+use Rattle.session_laws.specs.KeepLaws.{line-keeps}
 use Rattle.session_laws.specs.FoldLaws.{lines-count}
 
 -- ===== A line of the run =====
@@ -107,47 +108,8 @@ module _ (σ : Session) (p : σ .part ≡ Run) (number : ℕ) where
     steps = let z = uncounted k (y .answer) c in let q = ap (λ (x : Held). x .steps) h in omega arith;
   }
 
-  abbrev Uncalled : Kind → Reply → Type 0
-  Uncalled k y = allowed σ (ruleOf k (σ .part)) ≡ ok tt → callOf k ≡ none → OneCall σ k y
-
-  -- lines of the model are refused
-  elsewhere : {A : Type 0} (k : Kind) → ruleOf k Run ≡ R.Misplaced → allowed σ (ruleOf k (σ .part)) ≡ ok tt → A
-  elsewhere k q a = model-run (sym (in-model σ (ruleOf k) q (σ .part) a) ∙ p)
-
-  called : {A : Type 0} {c : Call} → some c ≡ none → A
-  called e = let z : _≡_ {A = ℕ} 0 1 = cc in absurd (omega arith)
-
-  run-cases : (es : List Event) → Cases σ number es Uncalled
-  run-cases es = record {
-    refusing = λ k r a c. no-call k _ c refl refl refl;
-    forConstant = λ n e a. elsewhere K.Constant refl a;
-    forPredicate = λ v e a. elsewhere K.Predicate refl a;
-    forTotal = λ x e a. elsewhere K.Total refl a;
-    forDiscount = λ q e a. elsewhere K.Discount refl a;
-    forReward = λ τ e a. elsewhere K.Reward refl a;
-    forAction = λ n e a. elsewhere K.Action refl a;
-    forVariant = λ τ e a. elsewhere K.Variant refl a;
-    forBecomes = λ τ e a. elsewhere K.Becomes refl a;
-    forStart = λ τ e a. elsewhere K.Start refl a;
-    forObjects = λ l e a c. no-call K.Objects _ c refl refl refl;
-    forIs = λ l e a c. no-call K.Is _ c refl refl refl;
-    forTrue = λ l e a c. no-call K.True _ c refl refl refl;
-    forValue = λ v e a c. no-call K.Value _ c refl refl refl;
-    forBackup = λ h e a c. called c;
-    forCut = λ x e a c. called c;
-    forReduce = λ h e a c. called c;
-    forShow = λ a c. no-call K.Show _ c refl refl refl;
-    forText = λ n e a c. no-call K.Text _ c refl refl refl;
-    forBest = λ x e a c. no-call K.Best _ c refl refl refl;
-    forCount = λ l e a c. no-call K.Count _ c refl refl refl;
-    forDid = λ l e a c. no-call K.Did _ c refl refl refl;
-  }
-
   uncalled : (s : List ℕ) → callOf (lineKind s) ≡ none → OneCall σ (lineKind s) (reply σ number s)
-  uncalled s c =
-      let es = wordsOf (lineKind s) s in
-      reply-by σ number s (λ k y. callOf k ≡ none → OneCall σ k y) (λ e d. no-call (lineKind s) _ d refl refl refl) (λ r d. no-call (lineKind s) _ d refl refl refl)
-      (done-by σ number es Uncalled (run-cases es) (lineKind s)) c
+  uncalled s c = let x = line-keeps σ p number s in no-call (lineKind s) (reply σ number s) c (x .part ∙ sym p) (x .model) (x .held c)
 
   -- a line that stands anywhere in the run is done
   anywhere : (k : Kind) → ruleOf k Run ≡ R.Anywhere → (s : List ℕ) → lineKind s ≡ k → reply σ number s ≡ done σ number k (wordsOf k s)

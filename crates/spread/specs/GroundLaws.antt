@@ -5,7 +5,7 @@ use mathlib.Core.List.{List, [], _∷_, _++_, map}
 use Prim.Native.Nat.{ℕ, zero, suc, pred, _+_, _*_, _^_, _<_}
 use native.Mathlib.Omega.{arith}
 use native.Mathlib.Nat.{pow-zero, pow-succ'}
-use lib.ListN.{length, getD, length-append}
+use lib.ListN.{length, getD, length-append, length-map}
 use lib.Dec.{eqb, ltb}
 use borrow.Author.Tests.{eqb-true, eqb-false, eq-eqb, ne-eqb, ltb-true, lt-ltb}
 use Rattle.basics.specs.Tests.{Flag, isTrue, isFalse, flag, and-left, and-right}
@@ -36,10 +36,6 @@ pub ground-test : IsTest sameGround
 ground-test = record { sound = ground-sound; complete = ground-complete }
 
 -- ===== How many =====
-length-map : {A B : Type 0} (g : A → B) (xs : List A) → length (map g xs) ≡ length xs
-length-map g [] = refl
-length-map g (x ∷ xs) = ap suc (length-map g xs)
-
 pub length-joined : {A : Type 0} (n k : ℕ) (f : ℕ → List A) → ((i : ℕ) → length (f i) ≡ k) → length (joined n f) ≡ n * k
 unfolding joined
 length-joined zero k f h = omega arith
@@ -65,7 +61,7 @@ unfolding tuples
 length-tuples n zero = sym (pow-zero n)
 length-tuples n (suc c) =
     ap length (tuples-joined n c)
-    ∙ length-joined n (n ^ c) (λ o. map (λ os. o ∷ os) (tuples n c)) (λ o. length-map (λ os. o ∷ os) (tuples n c) ∙ length-tuples n c)
+    ∙ length-joined n (n ^ c) (λ o. map (λ os. o ∷ os) (tuples n c)) (λ o. length-map (tuples n c) (λ os. o ∷ os) ∙ length-tuples n c)
     ∙ sym (pow-succ' n c)
 
 -- the count is that of the facts
@@ -75,7 +71,7 @@ length-ground ar zero n = refl
 length-ground ar (suc p) n =
     let a = length-append (groundFacts ar p n) (factsOf ar n (suc p)) in
     let b = length-ground ar p n in
-    let c = length-map (ground (suc p)) (tuples n (getD ar (suc p) 0)) ∙ length-tuples n (getD ar (suc p) 0) in
+    let c = length-map (tuples n (getD ar (suc p) 0)) (ground (suc p)) ∙ length-tuples n (getD ar (suc p) 0) in
     omega arith
 
 -- ===== Which =====

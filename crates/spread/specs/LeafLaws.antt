@@ -4,7 +4,7 @@ use mathlib.Core.Bool.{Bool, true, false, _||_, cond}
 use mathlib.Core.List.{List, [], _∷_, map}
 use Prim.Native.Nat.{ℕ, suc, _≤_, _<_}
 use native.Mathlib.Omega.{arith}
-use lib.ListN.{length}
+use lib.ListN.{length, length-map}
 use lib.Dec.{eqb}
 use borrow.Author.Tests.{eqb-true, eq-eqb}
 use Rattle.basics.specs.Tests.{Either, one, other, either, or-one, or-other}
@@ -113,16 +113,12 @@ values-leaves m f d h v e =
     let s = some-found m (λ c. eqb (f c) v) (sym (values-occur m f v) ∙ e) in
     ap (λ x. hasLeaf x d) (sym (eqb-true (f (s .0)) v (s .2))) ∙ h (s .0) (s .1)
 
-length-map : (g : ℕ → Entry) (xs : List ℕ) → length (map g xs) ≡ length xs
-length-map g [] = refl
-length-map g (x ∷ xs) = ap suc (length-map g xs)
-
 -- a listing has at most 1,023 entries
 pub entries-few : (ar : List ℕ) (count n : ℕ) (constants ws : List ℕ) (m : ℕ) → isListing ar ws ≡ true
     → ((c : ℕ) → Good (choiceState ar count n constants c)) → length (entries m (valueIn ar count n constants ws)) < mostRows
 unfolding entries valueIn
 entries-few ar count n constants ws m listed good =
-    rw (length-map (λ (v : ℕ). record { value = v; states = countOf m f v }) (values m f))
+    rw (length-map {B = Entry} (values m f) (λ (v : ℕ). record { value = v; states = countOf m f v }))
     (leaves-few (diagramOf ws) (values m f) (ascending-nodup 0 (values m f) (values-ascend m f))
     (values-leaves m f (diagramOf ws) (λ c l. number-leaf ar (choiceState ar count n constants c) (diagramOf ws) (good c)))
     (is-listing-good ar ws listed .few))

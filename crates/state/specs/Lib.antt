@@ -9,6 +9,7 @@
 --   low, fixed == x below m and y from m on; a term that is no variable: constants by the state, parameters by a tuple
 --   Fits == a valuation: θ gives every term an object of the state, what is no variable as placed
 --   Each, args, Terms == a property of every term of a list, of an atomic formula, of a diagram
+--   renameAtom, rename == each term replaced by what ρ gives it
 --
 -- Definitions: the highest leaf
 --   IsMax, Highest == x is the highest of f on P: attained, and nothing above; the highest leaf over all valuations

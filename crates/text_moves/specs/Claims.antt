@@ -1,6 +1,6 @@
 -- What the theorems on (best) in texts say, in types (document 02, L9).
 use mathlib.Core.Path.{_≡_}
-use mathlib.Core.Bool.{Bool, true, false}
+use mathlib.Core.Bool.{true, false}
 use mathlib.Core.List.{List, [], _∷_, _++_}
 use Prim.Native.Nat.{ℕ, _<_}
 use lib.ListN.{length, getD}
@@ -10,9 +10,7 @@ use Rattle.state.specs.State.{State}
 use Rattle.words.specs.declared.Key.{Key}
 use Rattle.best.specs.Moves.{Move}
 use Rattle.best.specs.Claims.{StepsBy, Stopped}
-use Rattle.text.specs.declared.Kind.{Kind}
 use Rattle.text.specs.declared.Kind.the-variants as K
-use Rattle.text.specs.LineForm.{lineKind}
 use Rattle.text.specs.Line.{Words, lineBytes, GoodLine}
 use Rattle.text.specs.Line.Line.{line}
 use Rattle.answers.specs.Answers.{bestHead, nameField, fields, lineEnd}
@@ -21,18 +19,16 @@ use Rattle.session.specs.Session.{Session, opening}
 use Rattle.session.specs.Running.{stateIn, noKey}
 use Rattle.session.specs.Replies.{Reply, isPlaced, refusal, reply}
 use Rattle.session.specs.Texts.{replyBytes}
+use Rattle.session_laws.specs.LineAnswers.{valueLine}
 use Rattle.session_laws.specs.TextReplies.{replies}
 use Rattle.session_laws.specs.TextRuns.{isRefused}
 
--- the lines (best), (backup) and (value), in bytes
+-- the lines (best) and (backup), in bytes
 abbrev pub bestLine : List ℕ
 bestLine = lineBytes (line K.Best tt)
 
 abbrev pub backupLine : List ℕ
 backupLine = lineBytes (line K.Backup tt)
-
-abbrev pub valueLine : List ℕ
-valueLine = lineBytes (line K.Value tt)
 
 -- 'the state in hand'
 abbrev pub inHand : Session → State
@@ -61,38 +57,6 @@ pub data RefusesBest (σ : Session) : Refusal → Type 0 where
   in-model : σ .part ≡ ModelPart → RefusesBest σ Place
   missing : σ .part ≡ Run → ((number : ℕ) → reply σ number valueLine ≡ refusal σ number Place) → RefusesBest σ Missing
   stopping : {r : Refusal} → σ .part ≡ Run → isPlaced σ ≡ true → Stopped (σ .model) (inHand σ) (σ .held .diagram) (σ .model .actions) r → RefusesBest σ r
-
--- ===== What lines leave as it was =====
-
--- (objects n), (is c o), (true p o ..) and (did action variant o ..) change the state in hand, and no other line does (document 02, L10 for the last)
-abbrev pub movesState : Kind → Bool
-movesState K.Constant = false
-movesState K.Predicate = false
-movesState K.Total = false
-movesState K.Discount = false
-movesState K.Reward = false
-movesState K.Action = false
-movesState K.Variant = false
-movesState K.Becomes = false
-movesState K.Start = false
-movesState K.Objects = true
-movesState K.Is = true
-movesState K.True = true
-movesState K.Value = false
-movesState K.Backup = false
-movesState K.Cut = false
-movesState K.Show = false
-movesState K.Reduce = false
-movesState K.Text = false
-movesState K.Best = false
-movesState K.Count = false
-movesState K.Did = true
-movesState K.Bad = false
-
--- none of the lines does
-abbrev pub NoStateLine : List (List ℕ) → Type 0
-NoStateLine [] = Unit {0}
-NoStateLine (s ∷ ls) = (movesState (lineKind s) ≡ false) × NoStateLine ls
 
 -- ===== The name declared =====
 

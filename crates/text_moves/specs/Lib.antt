@@ -1,12 +1,11 @@
 -- Which move (best) prints, of every text (document 02, L9). What a move and its sum are stands in best, what a session replies in session.
 --
 -- Definitions: what the theorems say
---   bestLine, backupLine, valueLine == these lines in bytes
+--   bestLine, backupLine == these lines in bytes
 --   inHand, nameIn == the state in hand; the name declared of a move's action
 --   MovesBy == the reply is `(best NAME o ..)` of the move and leaves the session; the move is the first whose sum is highest, with k and the state in hand, and M(k+1)
 --              is S^(k+1) · M0 plus that sum
 --   RefusesBest == what refuses (best): 5 in the model part; 20 where (value) is answered 5; then as the first action that does not pass stops
---   movesState, NoStateLine == the kinds of lines that change the state in hand; none of the lines is of them
 --   Declares == the accepted (action n !p ..) lines of a text, in order
 --   NamesMove == the bytes are `(best NAME o ..)`, NAME as written in the accepted (action ..) line with the number of the move's action, as many objects as it has parameters
 --
@@ -29,6 +28,5 @@ pub mod Claims
 -- laws
 pub mod LineLaws
 pub mod MoveLaws
-pub mod KeepLaws
 pub mod TextMoveLaws
 pub mod NameLaws

@@ -32,7 +32,8 @@ use Rattle.session.specs.Place.{ruleOf}
 use Rattle.session.specs.Session.{Live, Session, refuseIf}
 use Rattle.session.specs.Running.{stateIn, bestRead, bestIs, valueRead}
 use Rattle.session.specs.Replies.{Reply, isPlaced, allowed, unless, refusal, bestSays, valueSays, done, placed, replyTo, wordsOf, reply}
-use Rattle.text_moves.specs.Claims.{bestLine, backupLine, valueLine, inHand, RefusesBest, in-model, missing, stopping}
+use Rattle.session_laws.specs.LineAnswers.{valueLine}
+use Rattle.text_moves.specs.Claims.{bestLine, backupLine, inHand, RefusesBest, in-model, missing, stopping}
 
 -- ===== The line =====
 

@@ -4,7 +4,7 @@ use mathlib.Core.Bool.{Bool, true, false}
 use mathlib.Core.List.{List, [], _∷_, _++_, map, append-nil, append-assoc}
 use Prim.Native.Nat.{ℕ, zero, suc, _<_}
 use native.Mathlib.Omega.{arith}
-use lib.ListN.{length, getD, drop}
+use lib.ListN.{length, getD, drop, length-map}
 use lib.Dec.{eqb}
 use Rattle.refusal.specs.Outcome.{ok}
 use Rattle.state.specs.Max.{Tuple, none, more}
@@ -144,18 +144,14 @@ effect σ number s =
 
 -- ===== The lines of a text =====
 
-length-map : {A B : Type 0} (f : A → B) (xs : List A) → length (map f xs) ≡ length xs
-length-map f [] = refl
-length-map f (x ∷ xs) = ap suc (length-map f xs)
-
 -- the words of an (action n !p ..) line
-action-key : (w : Words K.Action) → GoodLine (line K.Action w) → keyIn (wordAt (wordsOf K.Action (lineBytes (line K.Action w))) 0) ≡ keyOf (w .0)
+pub action-key : (w : Words K.Action) → GoodLine (line K.Action w) → keyIn (wordAt (wordsOf K.Action (lineBytes (line K.Action w))) 0) ≡ keyOf (w .0)
 action-key w g = ap (λ (es : List Event). keyIn (wordAt es 0)) (line-events K.Action w (g .0))
 
-action-count : (w : Words K.Action) → GoodLine (line K.Action w) → length (keysIn (drop 1 (wordsOf K.Action (lineBytes (line K.Action w))))) ≡ length (w .1)
+pub action-count : (w : Words K.Action) → GoodLine (line K.Action w) → length (keysIn (drop 1 (wordsOf K.Action (lineBytes (line K.Action w))))) ≡ length (w .1)
 action-count w g =
     ap (λ (es : List Event). length (keysIn (drop 1 es))) (line-events K.Action w (g .0))
-    ∙ length-map keyIn (map parameterEvent (w .1)) ∙ length-map parameterEvent (w .1)
+    ∙ length-map (map parameterEvent (w .1)) keyIn ∙ length-map (w .1) parameterEvent
 
 abbrev keysOf : List (Words K.Action) → List Key
 keysOf ws = map (λ (w : Words K.Action). keyOf (w .0)) ws
@@ -249,7 +245,7 @@ text-names ls σ q x y h =
     let g = subst (λ (τ : Session). Grown opening ls (replies opening 0 ls) τ) (sym q) (text-grown ls) in
     let ws = g .lines in
     let i = x .action in
-    let place : i < length ws = omega (arith, h .declared, ap length (g .names), length-map (λ (w : Words K.Action). keyOf (w .0)) ws) in
+    let place : i < length ws = omega (arith, h .declared, ap length (g .names), length-map ws (λ (w : Words K.Action). keyOf (w .0))) in
     let key = ap (λ (l : List Key). getD l i noKey) (g .names) ∙ map-within (λ (w : Words K.Action). keyOf (w .0)) ws i noLine noKey place in
     let name = ap nameOf key ∙ name-of (getD ws i noLine .0) (declared-name (g .declared) i place) in
     record {

@@ -29,16 +29,16 @@ use Rattle.session.specs.Running.{withHeld, stateIn, backupLine as backupLineOf
 use Rattle.session.specs.Replies.{Reply, allowed, wordsOf, reply}
 use Rattle.session.specs.Texts.{Progress, afterLine, afterLines, beginning}
 use Rattle.session_laws.specs.PlaceLaws.{model-run, in-run}
-use Rattle.session_laws.specs.LineAnswers.{Answered, quiet, valued, backed, cutting, reducing, showing, printing, moving, counting, replaying, OneAnswer, blank, refusing, accepted, IsValue}
+use Rattle.session_laws.specs.LineAnswers.{valueLine, Answered, quiet, valued, backed, cutting, reducing, showing, printing, moving, counting, replaying, OneAnswer, blank, refusing, accepted, IsValue}
 use Rattle.session_laws.specs.AnswerLaws.{one-answer}
-use Rattle.session_laws.specs.FoldLaws.{lines-count}
-use Rattle.session_laws.specs.TextRuns.{callsOf, RunOf}
+use Rattle.session_laws.specs.FoldLaws.{lines-count, after-then}
+use Rattle.session_laws.specs.KeepLaws.{lines-keep}
+use Rattle.session_laws.specs.TextRuns.{callsOf, RunOf, movesState, NoStateLine}
 use Rattle.session_laws.specs.PrintLaws.{reply-moves}
 use Rattle.session_laws.specs.TextLaws.{Sound, text-sound, text-run, text-bellman}
-use Rattle.text_moves.specs.Claims.{bestLine, backupLine, valueLine, inHand, MovesBy, RefusesBest, in-model, missing, stopping, movesState, NoStateLine}
+use Rattle.text_moves.specs.Claims.{bestLine, backupLine, inHand, MovesBy, RefusesBest, in-model, missing, stopping}
 use Rattle.text_moves.specs.LineLaws.{best-kind, backup-kind, best-refuses}
 use Rattle.text_moves.specs.MoveLaws.{answered-steps}
-use Rattle.text_moves.specs.KeepLaws.{lines-keep, lines-both}
 
 -- ===== Texts =====
 
@@ -60,7 +60,7 @@ module _ (ls : List (List ℕ)) (σ : Session) (q : σ ≡ afterLines beginning 
 model-stays : (ls : List (List ℕ)) (σ : Session) → σ ≡ afterLines beginning ls .session → σ .part ≡ Run → (ms : List (List ℕ))
     → (τ : Session) → τ ≡ afterLines beginning (ls ++ ms) .session → τ .model ≡ σ .model
 model-stays ls σ q p ms τ u =
-    ap (λ (ρ : Session). ρ .model) (u ∙ ap (λ (r : Progress). r .session) (lines-both beginning ls ms))
+    ap (λ (ρ : Session). ρ .model) (u ∙ ap (λ (r : Progress). r .session) (after-then beginning ls ms))
     ∙ lines-keep (afterLines beginning ls) (ap (λ (ρ : Session). ρ .part) (sym q) ∙ p) ms .model
     ∙ ap (λ (ρ : Session). ρ .model) (sym q)
 
@@ -82,7 +82,7 @@ text-follows ls σ q x y h ms τ u same number s v w e =
 pub state-stays : (ls : List (List ℕ)) (σ : Session) → σ ≡ afterLines beginning ls .session → σ .part ≡ Run → (ms : List (List ℕ)) → NoStateLine ms
     → (τ : Session) → τ ≡ afterLines beginning (ls ++ ms) .session → τ .live ≡ σ .live
 state-stays ls σ q p ms none τ u =
-    ap (λ (ρ : Session). ρ .live) (u ∙ ap (λ (r : Progress). r .session) (lines-both beginning ls ms))
+    ap (λ (ρ : Session). ρ .live) (u ∙ ap (λ (r : Progress). r .session) (after-then beginning ls ms))
     ∙ lines-keep (afterLines beginning ls) (ap (λ (ρ : Session). ρ .part) (sym q) ∙ p) ms .live none
     ∙ ap (λ (ρ : Session). ρ .live) (sym q)
 
@@ -164,7 +164,7 @@ two-lines ls σ q s t stays =
     let n : afterLines beginning ls .lines ≡ length ls = lines-count beginning ls ∙ zero-add (length ls) in
     ap (λ (τ : Session). reply τ (suc (suc (length ls))) t .session) (sym stays)
     ∙ ap₂ (λ (τ : Session) (i : ℕ). reply (reply τ (suc i) s .session) (suc (suc i)) t .session) q (sym n)
-    ∙ ap (λ (p : Progress). p .session) (sym (lines-both beginning ls (s ∷ t ∷ [])))
+    ∙ ap (λ (p : Progress). p .session) (sym (after-then beginning ls (s ∷ t ∷ [])))
 
 -- the three lines behind the lines ls: a move is printed, the backup is accepted, and a value is printed
 pub best-backup-value : (ls : List (List ℕ)) (σ τ : Session) → σ ≡ afterLines beginning ls .session → τ ≡ reply σ (suc (suc (length ls))) backupLine .session

@@ -14,9 +14,10 @@ use Rattle.session.specs.Session.{Live, Names, Session, opening}
 use Rattle.session.specs.Replies.{eachPlaced, isPlaced, reply}
 use Rattle.session.specs.Texts.{hasBytes, Progress, replied, afterLine, afterLines, beginning}
 use Rattle.session_laws.specs.TextReplies.{replies}
-use Rattle.text_moves.specs.Claims.{movesState}
+use Rattle.session_laws.specs.TextRuns.{movesState}
+use Rattle.session_laws.specs.KeepLaws.{line-keeps}
 use Rattle.text_replays.specs.Claims.{reached, repliesAfter, AcceptedAs, Stands, NoObjects}
-use Rattle.text_replays.specs.KeepLaws.{line-model, Effect, stays, clears, places, tells, does, effect}
+use Rattle.text_replays.specs.KeepLaws.{StateEffect, stays, clears, places, tells, does, effect}
 use Rattle.text_replays.specs.FoldLaws.{behind-both, behind-line, replies-are}
 
 -- ===== One line =====
@@ -27,7 +28,7 @@ module _ (σ : Session) (number : ℕ) (s : List ℕ) where
       → (reply σ number s .session .live .count ≡ 0) × (reply σ number s .session .live .total ≡ 0)
   begins-again a = go a (effect σ number s)
     where
-      go : AcceptedAs K.Objects s (reply σ number s) ⊎ AcceptedAs K.True s (reply σ number s) → Effect σ (lineKind s) (reply σ number s)
+      go : AcceptedAs K.Objects s (reply σ number s) ⊎ AcceptedAs K.True s (reply σ number s) → StateEffect σ (lineKind s) (reply σ number s)
           → (reply σ number s .session .live .count ≡ 0) × (reply σ number s .session .live .total ≡ 0)
       go (inl h) (stays t e) = clash (t (ap movesState (h .0))) (h .1)
       go (inr h) (stays t e) = clash (t (ap movesState (h .0))) (h .1)
@@ -43,7 +44,7 @@ module _ (σ : Session) (number : ℕ) (s : List ℕ) where
       → (reply σ number s .session .live .count ≡ σ .live .count) × (reply σ number s .session .live .total ≡ σ .live .total)
   is-leaves h = go (effect σ number s)
     where
-      go : Effect σ (lineKind s) (reply σ number s) → (reply σ number s .session .live .count ≡ σ .live .count) × (reply σ number s .session .live .total ≡ σ .live .total)
+      go : StateEffect σ (lineKind s) (reply σ number s) → (reply σ number s .session .live .count ≡ σ .live .count) × (reply σ number s .session .live .total ≡ σ .live .total)
       go (stays t e) = clash (t (ap movesState (h .0))) (h .1)
       go (clears k f p c t) = let e = sym k ∙ h .0 in let z : _≡_ {A = ℕ} 0 1 = cc in absurd (omega arith)
       go (places k f p n c t) = (c, t)
@@ -55,7 +56,7 @@ module _ (σ : Session) (number : ℕ) (s : List ℕ) where
       → (AcceptedAs K.Did s (reply σ number s) → ⊥) → reply σ number s .session .live ≡ σ .live
   others-leave a b c d = go (effect σ number s)
     where
-      go : Effect σ (lineKind s) (reply σ number s) → reply σ number s .session .live ≡ σ .live
+      go : StateEffect σ (lineKind s) (reply σ number s) → reply σ number s .session .live ≡ σ .live
       go (stays t e) = e
       go (clears k f p x t) = absurd (a (k, f))
       go (places k f p n x t) = absurd (b (k, f))
@@ -74,10 +75,10 @@ placed-same σ τ o p n =
 module _ (σ : Session) (st : Stands σ) (number : ℕ) (s : List ℕ) where
   pub stands-on : (AcceptedAs K.Objects s (reply σ number s) → ⊥) → Stands (reply σ number s .session)
   stands-on a =
-      let kept = line-model σ (st .run) number s in
+      let kept = line-keeps σ (st .run) number s in
       record { run = kept .part; placed = go (kept .names) (effect σ number s) ∙ st .placed }
     where
-      go : reply σ number s .session .names ≡ σ .names → Effect σ (lineKind s) (reply σ number s) → isPlaced (reply σ number s .session) ≡ isPlaced σ
+      go : reply σ number s .session .names ≡ σ .names → StateEffect σ (lineKind s) (reply σ number s) → isPlaced (reply σ number s .session) ≡ isPlaced σ
       go n (stays t e) = placed-same σ (reply σ number s .session) (ap (λ (l : Live). l .objects) e) (ap (λ (l : Live). l .placed) e) n
       go n (clears k f p x t) = absurd (a (k, f))
       go n (places k f p u x t) = absurd (u (st .placed))
@@ -87,7 +88,7 @@ module _ (σ : Session) (st : Stands σ) (number : ℕ) (s : List ℕ) where
   pub stands-is : AcceptedAs K.Is s (reply σ number s) → ⊥
   stands-is h = go (effect σ number s)
     where
-      go : Effect σ (lineKind s) (reply σ number s) → ⊥
+      go : StateEffect σ (lineKind s) (reply σ number s) → ⊥
       go (stays t e) = clash (t (ap movesState (h .0))) (h .1)
       go (clears k f p c t) = let e = sym k ∙ h .0 in let z : _≡_ {A = ℕ} 0 1 = cc in omega arith
       go (places k f p n c t) = n (st .placed)
@@ -104,7 +105,7 @@ lines-stand q st (s ∷ ls) n =
 pub did-stands : (σ : Session) (number : ℕ) (s : List ℕ) → AcceptedAs K.Did s (reply σ number s) → Stands σ
 did-stands σ number s h = go (effect σ number s)
   where
-    go : Effect σ (lineKind s) (reply σ number s) → Stands σ
+    go : StateEffect σ (lineKind s) (reply σ number s) → Stands σ
     go (stays t e) = clash (t (ap movesState (h .0))) (h .1)
     go (clears k f p c t) = let e = sym k ∙ h .0 in let z : _≡_ {A = ℕ} 0 1 = cc in absurd (omega arith)
     go (places k f p n c t) = let e = sym k ∙ h .0 in let z : _≡_ {A = ℕ} 0 1 = cc in absurd (omega arith)
@@ -135,7 +136,7 @@ line-placed σ h number s c = go (effect σ number s)
     same : reply σ number s .session .live ≡ σ .live → 0 < σ .live .count
     same e = subst (λ (l : Live). 0 < l .count) e c
 
-    go : Effect σ (lineKind s) (reply σ number s) → Stands (reply σ number s .session)
+    go : StateEffect σ (lineKind s) (reply σ number s) → Stands (reply σ number s .session)
     go (stays t e) =
         stands-on σ (h (same e)) number s (λ a. clash (t (ap movesState (a .0))) (a .1))
     go (clears k f p x t) = absurd (omega arith)

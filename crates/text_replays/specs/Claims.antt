@@ -34,7 +34,8 @@ use Rattle.session.specs.Replies.{Reply, isPlaced, withLive, refusal, reply}
 use Rattle.session.specs.Texts.{replyBytes, afterLines, beginning}
 use Rattle.session_laws.specs.TextReplies.{replies}
 use Rattle.session_laws.specs.TextRuns.{isRefused}
-use Rattle.text_moves.specs.Claims.{valueLine, inHand}
+use Rattle.session_laws.specs.LineAnswers.{valueLine}
+use Rattle.text_moves.specs.Claims.{inHand}
 
 -- ===== Lines and sessions =====
 

@@ -4,7 +4,7 @@ use mathlib.Core.Bool.{false}
 use mathlib.Core.List.{List, [], _∷_, _++_, map, append-nil, append-assoc}
 use Prim.Native.Nat.{ℕ, zero, suc, _+_}
 use native.Mathlib.Omega.{arith}
-use lib.ListN.{length, getD, drop, length-append}
+use lib.ListN.{length, getD, drop, length-append, length-map}
 use lib.Seq.{take-at, drop-at}
 use Rattle.basics.specs.Members.{clash}
 use Rattle.state.specs.Max.{sumOf}
@@ -18,7 +18,6 @@ use Rattle.text.specs.Line.Line.{line}
 use Rattle.text.specs.LineForm.{lineKind}
 use Rattle.text.specs.LineLaws.{line-complete, line-sound}
 use Rattle.events.specs.declared.Event.{Event}
-use Rattle.events.specs.Events.{parameterEvent}
 use Rattle.events.specs.Contents.{keyIn, wordAt, keysIn}
 use Rattle.events.specs.LineEvents.{line-events}
 use Rattle.session.specs.Session.{Session, opening}
@@ -29,20 +28,12 @@ use Rattle.session.specs.Good.{variantCount}
 use Rattle.session_laws.specs.TextReplies.{replies}
 use Rattle.session_laws.specs.TextRuns.{isRefused}
 use Rattle.session_laws.specs.TextLaws.{text-sound}
+use Rattle.text_moves.specs.NameLaws.{action-key, action-count}
 use Rattle.text_replays.specs.Claims.{reached, ActionLines, noLines, AcceptedAs, Declarations, none, action, variant, other}
 use Rattle.text_replays.specs.Claims.{DeclarationsOf, DeclaredBy}
-use Rattle.text_replays.specs.ObjectLaws.{length-map}
-use Rattle.text_replays.specs.DeclaringLaws.{countsOf, lensOf, allOf, addLast, add-none, add-more, add-new, declaring, Same, Effect, an-action, a-variant, leaves, effect}
+use Rattle.text_replays.specs.DeclaringLaws.{countsOf, lensOf, allOf, addLast, add-none, add-more, add-new, declaring, Same, NamesEffect, an-action, a-variant, leaves, effect}
 
--- the words of an (action n !p ..) line, and the name of a (variant n WEIGHT) line
-action-key : (w : Words K.Action) → GoodLine (line K.Action w) → keyIn (wordAt (wordsOf K.Action (lineBytes (line K.Action w))) 0) ≡ keyOf (w .0)
-action-key w g = ap (λ (es : List Event). keyIn (wordAt es 0)) (line-events K.Action w (g .0))
-
-pub action-count : (w : Words K.Action) → GoodLine (line K.Action w) → length (keysIn (drop 1 (wordsOf K.Action (lineBytes (line K.Action w))))) ≡ length (w .1)
-action-count w g =
-    ap (λ (es : List Event). length (keysIn (drop 1 es))) (line-events K.Action w (g .0))
-    ∙ length-map keyIn (map parameterEvent (w .1)) ∙ length-map parameterEvent (w .1)
-
+-- the name of a (variant n WEIGHT) line
 variant-key : (w : Words K.Variant) → GoodLine (line K.Variant w) → keyIn (wordAt (wordsOf K.Variant (lineBytes (line K.Variant w))) 0) ≡ keyOf (w .0)
 variant-key w g = ap (λ (es : List Event). keyIn (wordAt es 0)) (line-events K.Variant w (g .0))
 
@@ -109,7 +100,7 @@ module _ (σ : Session) (number : ℕ) (s : List ℕ) (τ : Session) (vs : List 
       kind : lineKind s ≡ K.Action
       kind = ap lineKind b ∙ line-complete (line K.Action w) g
 
-      go : Effect σ (wordsOf (lineKind s) s) (lineKind s) y → Grown σ τ [] (record { action = w; variants = vs } ∷ xs)
+      go : NamesEffect σ (wordsOf (lineKind s) s) (lineKind s) y → Grown σ τ [] (record { action = w; variants = vs } ∷ xs)
       go (leaves k e) = clash (k (ap declaring kind)) f
       go (a-variant k h n c l v) = let e = sym kind ∙ k in let z : _≡_ {A = ℕ} 0 1 = cc in absurd (omega arith)
       go (an-action k h n c l v) =
@@ -124,7 +115,7 @@ module _ (σ : Session) (number : ℕ) (s : List ℕ) (τ : Session) (vs : List 
       kind : lineKind s ≡ K.Variant
       kind = ap lineKind b ∙ line-complete (line K.Variant w) g
 
-      go : Effect σ (wordsOf (lineKind s) s) (lineKind s) y → Grown σ τ (w .0 ∷ vs) xs
+      go : NamesEffect σ (wordsOf (lineKind s) s) (lineKind s) y → Grown σ τ (w .0 ∷ vs) xs
       go (leaves k e) = clash (k (ap declaring kind)) f
       go (an-action k h n c l v) = let e = sym kind ∙ k in let z : _≡_ {A = ℕ} 0 1 = cc in absurd (omega arith)
       go (a-variant k h n c l v) =
@@ -135,7 +126,7 @@ module _ (σ : Session) (number : ℕ) (s : List ℕ) (τ : Session) (vs : List 
   first-other : (AcceptedAs K.Action s y → ⊥) → (AcceptedAs K.Variant s y → ⊥) → Grown σ τ vs xs
   first-other a b = go (effect σ number s)
     where
-      go : Effect σ (wordsOf (lineKind s) s) (lineKind s) y → Grown σ τ vs xs
+      go : NamesEffect σ (wordsOf (lineKind s) s) (lineKind s) y → Grown σ τ vs xs
       go (leaves k e) = grow-leaves σ (y .session) τ vs xs r e
       go (an-action k h n c l v) = absurd (a (k, h))
       go (a-variant k h n c l v) = absurd (b (k, h))
@@ -168,7 +159,7 @@ declarations-are p (s ∷ ls) = go (effect (p .session) (suc (p .lines)) s) (dec
     ys : List Reply
     ys = replies (y .session) (suc (p .lines)) ls
 
-    go : Effect (p .session) (wordsOf (lineKind s) s) (lineKind s) y → (vs : List (List ℕ)) × (xs : List ActionLines) × Declarations ls ys vs xs
+    go : NamesEffect (p .session) (wordsOf (lineKind s) s) (lineKind s) y → (vs : List (List ℕ)) × (xs : List ActionLines) × Declarations ls ys vs xs
         → (vs : List (List ℕ)) × (xs : List ActionLines) × Declarations (s ∷ ls) (y ∷ ys) vs xs
     go (leaves k e) r = (r .0, r .1, other (λ a. clash (k (ap declaring (a .0))) (a .1)) (λ a. clash (k (ap declaring (a .0))) (a .1)) (r .2))
     go (an-action k f n c l v) r =
@@ -185,7 +176,7 @@ unfolding sumOf
 all-length [] = refl
 all-length (x ∷ xs) =
     let h = all-length xs in
-    let k = length-map keyOf (x .variants) in
+    let k = length-map (x .variants) keyOf in
     length-append (map keyOf (x .variants)) (allIn xs) ∙ omega arith
 
 lens-sum : (l : List Action) → variantCount l ≡ sumOf (map (λ (a : Action). length (a .variants)) l) (λ n. n)
@@ -204,10 +195,10 @@ names-at [] [] e a = refl
 names-at [] (x ∷ xs) e a = absurd (omega (arith, ap length e))
 names-at (b ∷ l) [] e a = absurd (omega (arith, ap length e))
 names-at (b ∷ l) (x ∷ xs) e zero =
-    let n : length (map keyOf (x .variants)) ≡ length (b .variants) = length-map keyOf (x .variants) ∙ sym (ap (λ (z : List ℕ). getD z 0 0) e) in
+    let n : length (map keyOf (x .variants)) ≡ length (b .variants) = length-map (x .variants) keyOf ∙ sym (ap (λ (z : List ℕ). getD z 0 0) e) in
     take-at (map keyOf (x .variants)) (allIn xs) (length (b .variants)) n
 names-at (b ∷ l) (x ∷ xs) e (suc a) =
-    let n : length (map keyOf (x .variants)) ≡ length (b .variants) = length-map keyOf (x .variants) ∙ sym (ap (λ (z : List ℕ). getD z 0 0) e) in
+    let n : length (map keyOf (x .variants)) ≡ length (b .variants) = length-map (x .variants) keyOf ∙ sym (ap (λ (z : List ℕ). getD z 0 0) e) in
     ap (λ (ks : List Key). variantNamesFrom ks l a) (drop-at (map keyOf (x .variants)) (allIn xs) (length (b .variants)) n)
     ∙ names-at l xs (ap (drop 1) e) a
 
@@ -231,7 +222,7 @@ module _ (ls : List (List ℕ)) (vs : List (List ℕ)) (xs : List ActionLines) (
       let a = length-append (σ .names .earlier) (σ .names .variants) in
       let b = ap length (g .all) in
       let c = length-append (map keyOf vs) (allIn xs) in
-      let e = length-map keyOf vs in
+      let e = length-map vs keyOf in
       let f = all-length xs in
       let h = text-sound ls .good .agreeing .all ∙ lens-sum (σ .model .actions) ∙ ap (λ (l : List ℕ). sumOf l (λ n. n)) (g .lens) in
       no-names vs (omega arith)

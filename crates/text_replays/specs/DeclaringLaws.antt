@@ -89,12 +89,12 @@ pub record Same (σ τ : Session) : Type 0 where
   pub all : allOf τ ≡ allOf σ
 
 -- an accepted (action ..) adds an action with no variant, an accepted (variant ..) a variant of the last action; any other line leaves names and numbers
-pub data Effect (σ : Session) (es : List Event) (k : Kind) (y : Reply) : Type 0 where
+pub data NamesEffect (σ : Session) (es : List Event) (k : Kind) (y : Reply) : Type 0 where
   an-action : k ≡ K.Action → isRefused (y .answer) ≡ false → y .session .names .actions ≡ σ .names .actions ++ (keyIn (wordAt es 0) ∷ [])
-      → countsOf (y .session) ≡ countsOf σ ++ (length (keysIn (drop 1 es)) ∷ []) → lensOf (y .session) ≡ lensOf σ ++ (0 ∷ []) → allOf (y .session) ≡ allOf σ → Effect σ es k y
+      → countsOf (y .session) ≡ countsOf σ ++ (length (keysIn (drop 1 es)) ∷ []) → lensOf (y .session) ≡ lensOf σ ++ (0 ∷ []) → allOf (y .session) ≡ allOf σ → NamesEffect σ es k y
   a-variant : k ≡ K.Variant → isRefused (y .answer) ≡ false → y .session .names .actions ≡ σ .names .actions → countsOf (y .session) ≡ countsOf σ
-      → lensOf (y .session) ≡ addLast (lensOf σ) 1 → allOf (y .session) ≡ allOf σ ++ (keyIn (wordAt es 0) ∷ []) → Effect σ es k y
-  leaves : (declaring k ≡ true → isRefused (y .answer) ≡ true) → Same σ (y .session) → Effect σ es k y
+      → lensOf (y .session) ≡ addLast (lensOf σ) 1 → allOf (y .session) ≡ allOf σ ++ (keyIn (wordAt es 0) ∷ []) → NamesEffect σ es k y
+  leaves : (declaring k ≡ true → isRefused (y .answer) ≡ true) → Same σ (y .session) → NamesEffect σ es k y
 
 never : {A : Type 0} → false ≡ true → A
 never e = clash e refl
@@ -136,7 +136,7 @@ module _ (σ : Session) (number : ℕ) (es : List Event) where
       made-by (Varied k) (weightRead (σ .names) (σ .model .arities) (σ .rows) k fs) (withVariant σ k)
       (λ d. (refl, counts-variant (σ .model .actions) _, lens-variant (σ .model .actions) _, sym (append-assoc (σ .names .earlier) (σ .names .variants) (k ∷ [])))) τ e
 
-  cases : Cases σ number es (Effect σ es)
+  cases : Cases σ number es (NamesEffect σ es)
   unfolding withVocabulary withTotal withDiscount withAction
   cases = record {
     refusing = λ k r. leaves (λ q. refl) (same σ);
@@ -166,12 +166,12 @@ module _ (σ : Session) (number : ℕ) (es : List Event) where
     forDid = λ l e. leaves never (record { actions = refl; counts = refl; lens = refl; all = refl });
   }
 
-pub effect : (σ : Session) (number : ℕ) (s : List ℕ) → Effect σ (wordsOf (lineKind s) s) (lineKind s) (reply σ number s)
+pub effect : (σ : Session) (number : ℕ) (s : List ℕ) → NamesEffect σ (wordsOf (lineKind s) s) (lineKind s) (reply σ number s)
 unfolding lineKind
 effect σ number s =
     let es = wordsOf (lineKind s) s in
-    reply-by σ number s (Effect σ es) (λ e. leaves (λ q. blank e q) (same σ)) (λ r. leaves (λ q. refl) (same σ))
-    (λ a. done-by σ number es (Effect σ es) (cases σ number es) (lineKind s))
+    reply-by σ number s (NamesEffect σ es) (λ e. leaves (λ q. blank e q) (same σ)) (λ r. leaves (λ q. refl) (same σ))
+    (λ a. done-by σ number es (NamesEffect σ es) (cases σ number es) (lineKind s))
   where
     blank : {A : Type 0} → s ≡ [] → declaring (lineKind s) ≡ true → A
     blank e q = never (sym (ap (λ (t : List ℕ). declaring (lineKind t)) e) ∙ q)

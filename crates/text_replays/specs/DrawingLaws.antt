@@ -1,12 +1,10 @@
 -- What each line does to the diagrams of the variants (document 01, section 'Text').
 use mathlib.Core.Path.{_≡_, refl, sym, ap, _∙_}
-use mathlib.Core.Bool.{Bool, true, false, not}
+use mathlib.Core.Bool.{Bool, true, false}
 use mathlib.Core.List.{List, [], _∷_, _++_}
 use Prim.Native.Nat.{ℕ, _<_}
-use native.Mathlib.Omega.{arith}
 use lib.ListN.{length, drop}
 use lib.Dec.{leb}
-use borrow.Author.Tests.{leb-true}
 use Rattle.basics.specs.Members.{clash}
 use Rattle.refusal.specs.Outcome.{Outcome, ok}
 use Rattle.refusal.specs.OutcomeLaws.{accepted-ok, accepted-next}
@@ -19,16 +17,16 @@ use Rattle.text.specs.declared.Kind.the-variants as K
 use Rattle.text.specs.LineForm.{lineKind}
 use Rattle.events.specs.declared.Event.{Event}
 use Rattle.events.specs.Contents.{keyIn, wordAt, keysIn}
-use Rattle.session.specs.declared.Part.{Part}
-use Rattle.session.specs.declared.Part.the-variants.{Model as ModelPart, Run}
+use Rattle.session.specs.declared.Part.the-variants.{Run}
 use Rattle.session.specs.Place.{ruleOf}
 use Rattle.session.specs.Session.{Session}
 use Rattle.session.specs.Session as S
 use Rattle.session.specs.ModelLines.{withReward, rewardRead, rewardLine, addVariant, noTruths, withVariant, weightRead, variantLine}
 use Rattle.session.specs.ModelLines.{withTruthAt, lastVariant, truthsNow, withTruth, truthRead, becomesLine, weighed}
 use Rattle.session.specs.Running.{withHeld, startLine}
-use Rattle.session.specs.Replies.{Reply, withVocabulary, withTotal, withDiscount, withAction, unless, allowed, wordsOf, reply}
+use Rattle.session.specs.Replies.{Reply, withVocabulary, withTotal, withDiscount, withAction, allowed, wordsOf, reply}
 use Rattle.session_laws.specs.TextRuns.{isRefused}
+use Rattle.session_laws.specs.PlaceLaws.{in-model, becomes-variant}
 use Rattle.session_laws.specs.RunLaws.{made-by}
 use Rattle.session_laws.specs.CaseLaws.{Cases, vocabularyOf, done-by, reply-by}
 use Rattle.session_laws.specs.MadeLaws.{constant-by, predicate-by, action-by, changeOf}
@@ -54,31 +52,25 @@ readTruth σ es = truthRead (σ .names) (σ .model .arities) (truthsNow (σ .mod
 
 -- an accepted (action ..) adds an action with no variant, an accepted (variant ..) a variant of the last action with the weight read, an accepted (becomes ..) the diagram read to
 -- the last variant, which there is; any other line leaves the actions
-pub data Effect (σ : Session) (es : List Event) (k : Kind) (y : Reply) : Type 0 where
+pub data ActionsEffect (σ : Session) (es : List Event) (k : Kind) (y : Reply) : Type 0 where
   an-action : k ≡ K.Action → isRefused (y .answer) ≡ false → actionsOf (y .session) ≡ actionsOf σ ++ (record { count = length (keysIn (drop 1 es)); variants = [] } ∷ [])
-      → y .session .names .variants ≡ [] → Effect σ es k y
+      → y .session .names .variants ≡ [] → ActionsEffect σ es k y
   a-variant : k ≡ K.Variant → isRefused (y .answer) ≡ false → (d : Diagram) → readWeight σ es ≡ ok d
-      → actionsOf (y .session) ≡ addVariant (actionsOf σ) (record { weight = d; truths = noTruths }) → Effect σ es k y
+      → actionsOf (y .session) ≡ addVariant (actionsOf σ) (record { weight = d; truths = noTruths }) → ActionsEffect σ es k y
   a-truth : k ≡ K.Becomes → isRefused (y .answer) ≡ false → (t : ℕ × Diagram) → readTruth σ es ≡ ok t
-      → actionsOf (y .session) ≡ lastVariant (actionsOf σ) (λ truths. withTruthAt truths (t .0) (t .1)) → 0 < length (σ .names .variants) → Effect σ es k y
-  leaves : (drawing k ≡ true → isRefused (y .answer) ≡ true) → Same σ (y .session) → Effect σ es k y
+      → actionsOf (y .session) ≡ lastVariant (actionsOf σ) (λ truths. withTruthAt truths (t .0) (t .1)) → 0 < length (σ .names .variants) → ActionsEffect σ es k y
+  leaves : (drawing k ≡ true → isRefused (y .answer) ≡ true) → Same σ (y .session) → ActionsEffect σ es k y
 
 never : {A : Type 0} → false ≡ true → A
 never e = clash e refl
 
 -- (becomes ..) stands behind a variant
-passes : (b : Bool) → unless (not b) ≡ ok tt → b ≡ true
-passes true e = refl
-passes false e = let z : _≡_ {A = ℕ} 0 1 = cc in absurd (omega arith)
-
-after-variant : (σ : Session) (p : Part) → allowed σ (ruleOf K.Becomes p) ≡ ok tt → 0 < length (σ .names .variants)
-unfolding allowed
-after-variant σ ModelPart e = leb-true 1 (length (σ .names .variants)) (passes (leb 1 (length (σ .names .variants))) e)
-after-variant σ Run e = let z : _≡_ {A = ℕ} 0 1 = cc in absurd (omega arith)
+after-variant : (σ : Session) → allowed σ (ruleOf K.Becomes (σ .part)) ≡ ok tt → 0 < length (σ .names .variants)
+after-variant σ a = becomes-variant σ (in-model σ (ruleOf K.Becomes) refl (σ .part) a) a
 
 module _ (σ : Session) (number : ℕ) (es : List Event) where
-  abbrev EffectIn : Kind → Reply → Type 0
-  EffectIn k y = allowed σ (ruleOf k (σ .part)) ≡ ok tt → Effect σ es k y
+  abbrev ActionsEffectIn : Kind → Reply → Type 0
+  ActionsEffectIn k y = allowed σ (ruleOf k (σ .part)) ≡ ok tt → ActionsEffect σ es k y
 
   -- the variants of the last action as they were, and those of a new one
   abbrev SameVariants : S.Names → Type 0
@@ -113,7 +105,7 @@ module _ (σ : Session) (number : ℕ) (es : List Event) where
   unfolding becomesLine withTruth
   truth-more τ e = accepted-next {P = Told} (readTruth σ es) _ (λ t q. accepted-ok (t, q, refl)) .given τ e
 
-  cases : Cases σ number es EffectIn
+  cases : Cases σ number es ActionsEffectIn
   unfolding withVocabulary withTotal withDiscount withAction
   cases = record {
     refusing = λ k r a. leaves (λ q. refl) (record { actions = refl; variants = refl });
@@ -126,7 +118,7 @@ module _ (σ : Session) (number : ℕ) (es : List Event) where
         let s = action-by Begun (σ .names) (keyIn (wordAt es 0)) (keysIn (drop 1 es)) (refl, refl) n e in
         an-action refl refl (ap (λ (ps : List Key). actionsOf σ ++ (record { count = length ps; variants = [] } ∷ [])) (s .0)) (s .1);
     forVariant = λ τ e a. let s = variant-more τ e in a-variant refl refl (s .0) (s .1) (s .2);
-    forBecomes = λ τ e a. let s = truth-more τ e in a-truth refl refl (s .0) (s .1) (s .2) (after-variant σ (σ .part) a);
+    forBecomes = λ τ e a. let s = truth-more τ e in a-truth refl refl (s .0) (s .1) (s .2) (after-variant σ a);
     forStart = λ τ e a. leaves never (start-same τ e);
     forObjects = λ l e a. leaves never (record { actions = refl; variants = refl });
     forIs = λ l e a. leaves never (record { actions = refl; variants = refl });
@@ -142,12 +134,12 @@ module _ (σ : Session) (number : ℕ) (es : List Event) where
     forDid = λ l e a. leaves never (record { actions = refl; variants = refl });
   }
 
-pub effect : (σ : Session) (number : ℕ) (s : List ℕ) → Effect σ (wordsOf (lineKind s) s) (lineKind s) (reply σ number s)
+pub effect : (σ : Session) (number : ℕ) (s : List ℕ) → ActionsEffect σ (wordsOf (lineKind s) s) (lineKind s) (reply σ number s)
 unfolding lineKind
 effect σ number s =
     let es = wordsOf (lineKind s) s in
-    reply-by σ number s (Effect σ es) (λ e. leaves (λ q. blank e q) (record { actions = refl; variants = refl }))
-    (λ r. leaves (λ q. refl) (record { actions = refl; variants = refl })) (done-by σ number es (EffectIn σ number es) (cases σ number es) (lineKind s))
+    reply-by σ number s (ActionsEffect σ es) (λ e. leaves (λ q. blank e q) (record { actions = refl; variants = refl }))
+    (λ r. leaves (λ q. refl) (record { actions = refl; variants = refl })) (done-by σ number es (ActionsEffectIn σ number es) (cases σ number es) (lineKind s))
   where
     blank : {A : Type 0} → s ≡ [] → drawing (lineKind s) ≡ true → A
     blank e q = never (sym (ap (λ (t : List ℕ). drawing (lineKind t)) e) ∙ q)

@@ -28,12 +28,13 @@ use Rattle.session.specs.Replies.{Reply, wordsOf, reply}
 use Rattle.session.specs.Texts.{hasBytes, Progress, replied, afterLine, afterLines, beginning}
 use Rattle.session_laws.specs.TextReplies.{replies}
 use Rattle.session_laws.specs.TextRuns.{isRefused}
+use Rattle.text_moves.specs.NameLaws.{action-count}
 use Rattle.text_replays.specs.Claims.{reached, AcceptedAs, didIn, NamesPass, ActionLines, Declarations}
 use Rattle.text_replays.specs.Claims as C
 use Rattle.text_replays.specs.Drawings.{VariantDrawn, ActionDrawn, DrawsWeight, DrawsTruth, Drawings, ends, action, variant, becomes, other, DrawingsOf, linesOf}
 use Rattle.text_replays.specs.Drawings.{orElse, ifSo, drawnFor, variantFrom, actionFrom, DrawnBy, noDrawing, noneDrawn, drawnAt, DidDrawn}
-use Rattle.text_replays.specs.DrawingLaws.{drawing, actionsOf, Same, readWeight, readTruth, Effect, an-action, a-variant, a-truth, leaves, effect}
-use Rattle.text_replays.specs.DeclaredLaws.{action-count, map-at, none-before}
+use Rattle.text_replays.specs.DrawingLaws.{drawing, actionsOf, Same, readWeight, readTruth, ActionsEffect, an-action, a-variant, a-truth, leaves, effect}
+use Rattle.text_replays.specs.DeclaredLaws.{map-at, none-before}
 use Rattle.text_replays.specs.NameLaws.{text-did-names}
 
 -- ===== The last variant =====
@@ -164,7 +165,7 @@ module _ (σ : Session) (number : ℕ) (s : List ℕ) where
       kind : lineKind s ≡ K.Action
       kind = ap lineKind b ∙ line-complete (line K.Action w) g
 
-      go : Effect σ (wordsOf (lineKind s) s) (lineKind s) y → actionsOf (y .session) ≡ actionsOf σ ++ (record { count = length (w .1); variants = [] } ∷ [])
+      go : ActionsEffect σ (wordsOf (lineKind s) s) (lineKind s) y → actionsOf (y .session) ≡ actionsOf σ ++ (record { count = length (w .1); variants = [] } ∷ [])
       go (leaves k e) = clash (k (ap drawing kind)) f
       go (a-variant k h d q e) = let x = sym kind ∙ k in let z : _≡_ {A = ℕ} 0 1 = cc in absurd (omega arith)
       go (a-truth k h t q e n) = let x = sym kind ∙ k in let z : _≡_ {A = ℕ} 0 1 = cc in absurd (omega arith)
@@ -180,7 +181,7 @@ module _ (σ : Session) (number : ℕ) (s : List ℕ) where
       kind : lineKind s ≡ K.Variant
       kind = ap lineKind b ∙ line-complete (line K.Variant w) g
 
-      go : Effect σ (wordsOf (lineKind s) s) (lineKind s) y → actionsOf (y .session) ≡ addVariant (actionsOf σ) (record { weight = c; truths = noTruths })
+      go : ActionsEffect σ (wordsOf (lineKind s) s) (lineKind s) y → actionsOf (y .session) ≡ addVariant (actionsOf σ) (record { weight = c; truths = noTruths })
       go (leaves k e) = clash (k (ap drawing kind)) f
       go (an-action k h e n) = let x = sym kind ∙ k in let z : _≡_ {A = ℕ} 0 1 = cc in absurd (omega arith)
       go (a-truth k h t q e n) = let x = sym kind ∙ k in let z : _≡_ {A = ℕ} 0 1 = cc in absurd (omega arith)
@@ -196,7 +197,7 @@ module _ (σ : Session) (number : ℕ) (s : List ℕ) where
       kind : lineKind s ≡ K.Becomes
       kind = ap lineKind b ∙ line-complete (line K.Becomes w) g
 
-      go : Effect σ (wordsOf (lineKind s) s) (lineKind s) y
+      go : ActionsEffect σ (wordsOf (lineKind s) s) (lineKind s) y
           → (actionsOf (y .session) ≡ lastVariant (actionsOf σ) (λ truths. withTruthAt truths (c .0) (c .1))) × (0 < length (σ .names .variants))
       go (leaves k e) = clash (k (ap drawing kind)) f
       go (an-action k h e n) = let x = sym kind ∙ k in let z : _≡_ {A = ℕ} 0 1 = cc in absurd (omega arith)
@@ -209,7 +210,7 @@ module _ (σ : Session) (number : ℕ) (s : List ℕ) where
   pub first-other : (AcceptedAs K.Action s y → ⊥) → (AcceptedAs K.Variant s y → ⊥) → (AcceptedAs K.Becomes s y → ⊥) → Same σ (y .session)
   first-other a b c = go (effect σ number s)
     where
-      go : Effect σ (wordsOf (lineKind s) s) (lineKind s) y → Same σ (y .session)
+      go : ActionsEffect σ (wordsOf (lineKind s) s) (lineKind s) y → Same σ (y .session)
       go (leaves k e) = e
       go (an-action k h e n) = absurd (a (k, h))
       go (a-variant k h d q e) = absurd (b (k, h))
@@ -265,7 +266,7 @@ drawings-are p (s ∷ ls) = go (effect (p .session) (suc (p .lines)) s) (drawing
     zs : List Reply
     zs = replies (z .session) (suc (p .lines)) ls
 
-    go : Effect (p .session) (wordsOf (lineKind s) s) (lineKind s) z → SomeDrawn (z .session) ls zs → SomeDrawn (p .session) (s ∷ ls) (z ∷ zs)
+    go : ActionsEffect (p .session) (wordsOf (lineKind s) s) (lineKind s) z → SomeDrawn (z .session) ls zs → SomeDrawn (p .session) (s ∷ ls) (z ∷ zs)
     go (leaves k e) r =
         (r .0, r .1, r .2, other (λ a. clash (k (ap drawing (a .0))) (a .1)) (λ a. clash (k (ap drawing (a .0))) (a .1)) (λ a. clash (k (ap drawing (a .0))) (a .1)) (r .3))
     go (an-action k f e n) r =

@@ -8,9 +8,8 @@ use Rattle.session.specs.Replies.{Reply, reply}
 use Rattle.session.specs.Texts.{Progress, afterLine, afterLines, beginning}
 use Rattle.session.specs.Good.{GoodSession}
 use Rattle.session_laws.specs.TextReplies.{replies}
-use Rattle.session_laws.specs.FoldLaws.{lines-count, replies-then}
+use Rattle.session_laws.specs.FoldLaws.{lines-count, replies-then, after-then}
 use Rattle.session_laws.specs.TextLaws.{text-sound}
-use Rattle.text_moves.specs.KeepLaws.{lines-both}
 use Rattle.text_replays.specs.Claims.{reached, repliesAfter}
 
 -- the number of the next line
@@ -19,7 +18,7 @@ unfolding beginning
 lines-are ls = lines-count beginning ls ∙ zero-add (length ls)
 
 pub behind-both : (ls ms : List (List ℕ)) → reached (ls ++ ms) ≡ afterLines (afterLines beginning ls) ms .session
-behind-both ls ms = ap (λ (p : Progress). p .session) (lines-both beginning ls ms)
+behind-both ls ms = ap (λ (p : Progress). p .session) (after-then beginning ls ms)
 
 -- one line more
 pub behind-line : (ls : List (List ℕ)) (s : List ℕ) → reached (ls ++ (s ∷ [])) ≡ reply (reached ls) (suc (length ls)) s .session
@@ -37,7 +36,7 @@ replies-line ls ms s =
     let q = afterLines beginning ls in
     sym (replies-are ls (ms ++ (s ∷ [])))
     ∙ replies-then q ms (s ∷ [])
-    ∙ ap₂ (λ (ys : List Reply) (p : Progress). ys ++ (reply (p .session) (suc (p .lines)) s ∷ [])) (replies-are ls ms) (sym (lines-both beginning ls ms))
+    ∙ ap₂ (λ (ys : List Reply) (p : Progress). ys ++ (reply (p .session) (suc (p .lines)) s ∷ [])) (replies-are ls ms) (sym (after-then beginning ls ms))
     ∙ ap (λ (n : ℕ). repliesAfter ls ms ++ (reply (reached (ls ++ ms)) (suc n) s ∷ [])) (lines-are (ls ++ ms))
 
 -- behind whatever lines a session is good, and behind those that follow
@@ -45,4 +44,4 @@ abbrev pub Goods : Progress → Type 0
 Goods q = (ls : List (List ℕ)) → GoodSession (afterLines q ls .session)
 
 pub text-goods : (ls : List (List ℕ)) → Goods (afterLines beginning ls)
-text-goods ls ms = rw (← lines-both beginning ls ms) (text-sound (ls ++ ms) .good)
+text-goods ls ms = rw (← after-then beginning ls ms) (text-sound (ls ++ ms) .good)

@@ -23,14 +23,14 @@ use Rattle.session.specs.Replies.{Reply, reply}
 use Rattle.session.specs.Texts.{hasBytes, Progress, replied, afterLine, afterLines}
 use Rattle.session.specs.Good.{GoodSession}
 use Rattle.session_laws.specs.TextReplies.{replies}
-use Rattle.session_laws.specs.TextRuns.{isRefused}
+use Rattle.session_laws.specs.TextRuns.{isRefused, movesState}
 use Rattle.session_laws.specs.PlaceLaws.{placed-objects}
-use Rattle.text_moves.specs.Claims.{movesState}
+use Rattle.session_laws.specs.KeepLaws.{line-keeps}
 use Rattle.text_replays.specs.Claims.{didBytes, AcceptedAs, didIn, Undisturbed, Logs, none, did, other}
 use Rattle.text_replays.specs.LineLaws.{did-only, did-kind}
 use Rattle.text_replays.specs.MoveLaws.{replayBy, sessionBy}
 use Rattle.text_replays.specs.RefusalLaws.{may-counts, may-said, did-may}
-use Rattle.text_replays.specs.KeepLaws.{line-model, Effect, stays, clears, places, tells, does, effect}
+use Rattle.text_replays.specs.KeepLaws.{StateEffect, stays, clears, places, tells, does, effect}
 use Rattle.text_replays.specs.FoldLaws.{Goods}
 use Rattle.text_replays.specs.BeginLaws.{did-stands}
 use Rattle.text_replays.specs.CheckLaws.{named-checked}
@@ -52,7 +52,7 @@ logs-are q (s ∷ ls) ρ = go (effect (q .session) (suc (q .lines)) s) (logs-are
     not-did : (i : Kind) → (i ≡ K.Did → ⊥) → lineKind s ≡ i → AcceptedAs K.Did s z → ⊥
     not-did i n k a = n (sym k ∙ a .0)
 
-    go : Effect (q .session) (lineKind s) z → (ds : List Did) × Logs ρ ls ys ds → (ds : List Did) × Logs ρ (s ∷ ls) (z ∷ ys) ds
+    go : StateEffect (q .session) (lineKind s) z → (ds : List Did) × Logs ρ ls ys ds → (ds : List Did) × Logs ρ (s ∷ ls) (z ∷ ys) ds
     go (stays t e) r = (r .0, other (λ a. clash (t (ap movesState (a .0))) (a .1)) (r .1))
     go (clears k f p c t) r = (r .0, other (not-did K.Objects (λ e. let x : _≡_ {A = ℕ} 0 1 = cc in omega arith) k) (r .1))
     go (places k f p n c t) r = (r .0, other (not-did K.Is (λ e. let x : _≡_ {A = ℕ} 0 1 = cc in omega arith) k) (r .1))
@@ -132,12 +132,12 @@ unfolding afterLines afterLine replies replay acceptedOf
 follow q g p [] u ρ mo na ds none = record { checked = tt; taken = refl; left = refl }
 follow q g p (s ∷ ls) u ρ mo na ds (did {ds = es} w good b f r) =
     let number = suc (q .lines) in
-    let kept = line-model (q .session) p number s in
+    let kept = line-keeps (q .session) p number s in
     counted-first (q .session) (g []) number s w good b f ρ mo na es _
     (follow (replied q (hasBytes s) (reply (q .session) number s)) (λ ms. g (s ∷ ms)) (kept .part) ls (u .3) ρ (mo ∙ sym (kept .model)) (na ∙ sym (kept .names)) es r)
 follow q g p (s ∷ ls) u ρ mo na ds (other n r) =
     let number = suc (q .lines) in
-    let kept = line-model (q .session) p number s in
+    let kept = line-keeps (q .session) p number s in
     go (effect (q .session) number s)
     (follow (replied q (hasBytes s) (reply (q .session) number s)) (λ ms. g (s ∷ ms)) (kept .part) ls (u .3) ρ (mo ∙ sym (kept .model)) (na ∙ sym (kept .names)) ds r)
   where
@@ -150,7 +150,7 @@ follow q g p (s ∷ ls) u ρ mo na ds (other n r) =
     l : Live
     l = afterLines (replied q (hasBytes s) z) ls .session .live
 
-    go : Effect σ (lineKind s) z → Followed (ρ .model) (z .session .live) ds l → Followed (ρ .model) (σ .live) ds l
+    go : StateEffect σ (lineKind s) z → Followed (ρ .model) (z .session .live) ds l → Followed (ρ .model) (σ .live) ds l
     go (stays t e) h = subst (λ (x : Live). Followed (ρ .model) x ds l) e h
     go (clears k f i c t) h = absurd (u .0 (k, f))
     go (places k f i x c t) h = absurd (u .1 (k, f))
@@ -180,7 +180,7 @@ still q h (s ∷ ls) u ρ ds (other n r) =
     l : Live
     l = afterLines (replied q (hasBytes s) z) ls .session .live
 
-    go : Effect σ (lineKind s) z → (z .session .live ≡ σ .live → (ds ≡ []) × (l ≡ z .session .live)) → (ds ≡ []) × (l ≡ σ .live)
+    go : StateEffect σ (lineKind s) z → (z .session .live ≡ σ .live → (ds ≡ []) × (l ≡ z .session .live)) → (ds ≡ []) × (l ≡ σ .live)
     go (stays t e) i = let x = i e in (x .0, x .1 ∙ e)
     go (clears k f p c t) i = absurd (u .0 (k, f))
     go (places k f p x c t) i = absurd (u .1 (k, f))

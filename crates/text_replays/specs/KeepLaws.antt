@@ -1,8 +1,8 @@
--- What each line leaves of the state in hand, of count and total, and in the run of names and model (document 01, section 'Text'; document 02, L10).
+-- What each line leaves of the state in hand, of count and total (document 01, section 'Text'; document 02, L10).
 use mathlib.Core.Path.{_≡_, refl, sym, ap, _∙_}
 use mathlib.Core.Bool.{Bool, true, false, not, _&&_, _||_, cond}
-use mathlib.Core.List.{List, [], _∷_}
-use Prim.Native.Nat.{ℕ, suc}
+use mathlib.Core.List.{List, []}
+use Prim.Native.Nat.{ℕ}
 use lib.ListN.{length, getD}
 use lib.Dec.{eqb, leb}
 use borrow.Author.Tests.{ltb-true}
@@ -30,82 +30,23 @@ use Rattle.session.specs.ModelLines.{withReward, rewardRead, rewardLine, withVa
 use Rattle.session.specs.Running.{withHeld, startLine}
 use Rattle.session.specs.Replaying.{replayed, didLine}
 use Rattle.session.specs.Replies.{Reply, hasObjects, isPlaced, withVocabulary, withTotal, withDiscount, withAction, allowed, wordsOf, reply}
-use Rattle.session.specs.Texts.{hasBytes, Progress, replied, afterLine, afterLines}
-use Rattle.session_laws.specs.TextRuns.{isRefused}
-use Rattle.session_laws.specs.PlaceLaws.{model-run, in-model, in-run, did-placed}
+use Rattle.session_laws.specs.TextRuns.{isRefused, movesState}
+use Rattle.session_laws.specs.PlaceLaws.{in-run, did-placed}
 use Rattle.session_laws.specs.RunLaws.{made-by}
 use Rattle.session_laws.specs.ReplayLaws.{did-read}
 use Rattle.session_laws.specs.CaseLaws.{Cases, done-by, reply-by}
-use Rattle.text_moves.specs.Claims.{movesState}
 use Rattle.text_replays.specs.Claims.{Stands}
-
--- ===== Names and model, in the run =====
-
-pub record KeepsModel (σ τ : Session) : Type 0 where
-  pub part : τ .part ≡ Run
-  pub model : τ .model ≡ σ .model
-  pub names : τ .names ≡ σ .names
-
-module _ (σ : Session) (p : σ .part ≡ Run) (number : ℕ) where
-  abbrev KeepsIn : Kind → Reply → Type 0
-  KeepsIn k y = allowed σ (ruleOf k (σ .part)) ≡ ok tt → KeepsModel σ (y .session)
-
-  -- lines of the model are refused
-  elsewhere : {A : Type 0} (k : Kind) → ruleOf k Run ≡ R.Misplaced → allowed σ (ruleOf k (σ .part)) ≡ ok tt → A
-  elsewhere k q a = model-run (sym (in-model σ (ruleOf k) q (σ .part) a) ∙ p)
-
-  model-cases : (es : List Event) → Cases σ number es KeepsIn
-  model-cases es = record {
-    refusing = λ k r a. record { part = p; model = refl; names = refl };
-    forConstant = λ n e a. elsewhere K.Constant refl a;
-    forPredicate = λ v e a. elsewhere K.Predicate refl a;
-    forTotal = λ x e a. elsewhere K.Total refl a;
-    forDiscount = λ q e a. elsewhere K.Discount refl a;
-    forReward = λ τ e a. elsewhere K.Reward refl a;
-    forAction = λ n e a. elsewhere K.Action refl a;
-    forVariant = λ τ e a. elsewhere K.Variant refl a;
-    forBecomes = λ τ e a. elsewhere K.Becomes refl a;
-    forStart = λ τ e a. elsewhere K.Start refl a;
-    forObjects = λ l e a. record { part = p; model = refl; names = refl };
-    forIs = λ l e a. record { part = p; model = refl; names = refl };
-    forTrue = λ l e a. record { part = p; model = refl; names = refl };
-    forValue = λ v e a. record { part = p; model = refl; names = refl };
-    forBackup = λ h e a. record { part = p; model = refl; names = refl };
-    forCut = λ x e a. record { part = p; model = refl; names = refl };
-    forReduce = λ h e a. record { part = p; model = refl; names = refl };
-    forShow = λ a. record { part = p; model = refl; names = refl };
-    forText = λ n e a. record { part = p; model = refl; names = refl };
-    forBest = λ x e a. record { part = p; model = refl; names = refl };
-    forCount = λ l e a. record { part = p; model = refl; names = refl };
-    forDid = λ l e a. record { part = p; model = refl; names = refl };
-  }
-
-  pub line-model : (s : List ℕ) → KeepsModel σ (reply σ number s .session)
-  line-model s =
-      let es = wordsOf (lineKind s) s in
-      reply-by σ number s (λ k y. KeepsModel σ (y .session)) (λ e. record { part = p; model = refl; names = refl }) (λ r. record { part = p; model = refl; names = refl })
-      (done-by σ number es KeepsIn (model-cases es) (lineKind s))
-
-pub lines-model : (q : Progress) → q .session .part ≡ Run → (ls : List (List ℕ)) → KeepsModel (q .session) (afterLines q ls .session)
-unfolding afterLines afterLine
-lines-model q p [] = record { part = p; model = refl; names = refl }
-lines-model q p (s ∷ ls) =
-    let a = line-model (q .session) p (suc (q .lines)) s in
-    let b = lines-model (replied q (hasBytes s) (reply (q .session) (suc (q .lines)) s)) (a .part) ls in
-    record { part = b .part; model = b .model ∙ a .model; names = b .names ∙ a .names }
-
--- ===== The state in hand =====
 
 -- the reply y to a line of the kind k: an accepted (objects n) or (true p o ..) begins again with count and total 0; an accepted (is c o) leaves both, and a constant was not placed;
 -- an accepted (did ..) stands where (value) may; any other line leaves the state, count and total
-pub data Effect (σ : Session) (k : Kind) (y : Reply) : Type 0 where
-  stays : (movesState k ≡ true → isRefused (y .answer) ≡ true) → y .session .live ≡ σ .live → Effect σ k y
-  clears : k ≡ K.Objects → isRefused (y .answer) ≡ false → σ .part ≡ Run → y .session .live .count ≡ 0 → y .session .live .total ≡ 0 → Effect σ k y
+pub data StateEffect (σ : Session) (k : Kind) (y : Reply) : Type 0 where
+  stays : (movesState k ≡ true → isRefused (y .answer) ≡ true) → y .session .live ≡ σ .live → StateEffect σ k y
+  clears : k ≡ K.Objects → isRefused (y .answer) ≡ false → σ .part ≡ Run → y .session .live .count ≡ 0 → y .session .live .total ≡ 0 → StateEffect σ k y
   places : k ≡ K.Is → isRefused (y .answer) ≡ false → σ .part ≡ Run → (isPlaced σ ≡ true → ⊥) → y .session .live .count ≡ σ .live .count
-      → y .session .live .total ≡ σ .live .total → Effect σ k y
+      → y .session .live .total ≡ σ .live .total → StateEffect σ k y
   tells : k ≡ K.True → isRefused (y .answer) ≡ false → σ .part ≡ Run → y .session .live .count ≡ 0 → y .session .live .total ≡ 0
-      → y .session .live .objects ≡ σ .live .objects → y .session .live .placed ≡ σ .live .placed → Effect σ k y
-  does : k ≡ K.Did → isRefused (y .answer) ≡ false → Stands σ → y .session .live .objects ≡ σ .live .objects → y .session .live .placed ≡ σ .live .placed → Effect σ k y
+      → y .session .live .objects ≡ σ .live .objects → y .session .live .placed ≡ σ .live .placed → StateEffect σ k y
+  does : k ≡ K.Did → isRefused (y .answer) ≡ false → Stands σ → y .session .live .objects ≡ σ .live .objects → y .session .live .placed ≡ σ .live .placed → StateEffect σ k y
 
 never : {A : Type 0} → false ≡ true → A
 never e = clash e refl
@@ -164,8 +105,8 @@ did-effect m n l a v os z e =
 -- ===== Every line =====
 
 module _ (σ : Session) (number : ℕ) (es : List Event) where
-  abbrev EffectIn : Kind → Reply → Type 0
-  EffectIn k y = allowed σ (ruleOf k (σ .part)) ≡ ok tt → Effect σ k y
+  abbrev StateEffectIn : Kind → Reply → Type 0
+  StateEffectIn k y = allowed σ (ruleOf k (σ .part)) ≡ ok tt → StateEffect σ k y
 
   abbrev SameLive : Session → Type 0
   SameLive τ = τ .live ≡ σ .live
@@ -193,7 +134,7 @@ module _ (σ : Session) (number : ℕ) (es : List Event) where
   stands : allowed σ (ruleOf K.Did (σ .part)) ≡ ok tt → Stands σ
   stands a = let p = run K.Did refl a in record { run = p; placed = did-placed σ p a }
 
-  live-cases : Cases σ number es EffectIn
+  live-cases : Cases σ number es StateEffectIn
   unfolding withVocabulary withTotal withDiscount withAction
   live-cases = record {
     refusing = λ k r a. stays (λ q. refl) refl;
@@ -220,11 +161,11 @@ module _ (σ : Session) (number : ℕ) (es : List Event) where
     forDid = λ l e a. let h = did-effect _ _ _ _ _ _ l e in does refl refl (stands a) (h .0) (h .1);
   }
 
-pub effect : (σ : Session) (number : ℕ) (s : List ℕ) → Effect σ (lineKind s) (reply σ number s)
+pub effect : (σ : Session) (number : ℕ) (s : List ℕ) → StateEffect σ (lineKind s) (reply σ number s)
 unfolding lineKind
 effect σ number s =
     let es = wordsOf (lineKind s) s in
-    reply-by σ number s (Effect σ) (λ e. stays (λ q. blank e q) refl) (λ r. stays (λ q. refl) refl) (done-by σ number es (EffectIn σ number es) (live-cases σ number es) (lineKind s))
+    reply-by σ number s (StateEffect σ) (λ e. stays (λ q. blank e q) refl) (λ r. stays (λ q. refl) refl) (done-by σ number es (StateEffectIn σ number es) (live-cases σ number es) (lineKind s))
   where
     blank : {A : Type 0} → s ≡ [] → movesState (lineKind s) ≡ true → A
     blank e q = never (sym (ap (λ (t : List ℕ). movesState (lineKind t)) e) ∙ q)

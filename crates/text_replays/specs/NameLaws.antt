@@ -5,7 +5,7 @@ use mathlib.Core.Bool.{Bool, true, false, cond}
 use mathlib.Core.List.{List, [], _∷_, map}
 use Prim.Native.Nat.{ℕ, zero, suc, _<_}
 use native.Mathlib.Omega.{arith}
-use lib.ListN.{length, getD}
+use lib.ListN.{length, getD, length-map}
 use borrow.Author.Tests.{ltb-true, lt-ltb}
 use Rattle.basics.specs.Members.{clash}
 use Rattle.mdp.specs.Model.{Every}
@@ -22,7 +22,6 @@ use Rattle.session.specs.Replaying.{didOf}
 use Rattle.session.specs.Replies.{Reply}
 use Rattle.text_replays.specs.Claims.{reached, didIn, hasAction, hasVariant, NamesPass, ActionLines, Declarations, none, action, variant, other}
 use Rattle.text_replays.specs.Claims.{DeclarationsOf, DeclaredBy, PlaceOf, NoPlace, actionNames, variantNamesAt, NamesDid}
-use Rattle.text_replays.specs.ObjectLaws.{length-map}
 use Rattle.text_replays.specs.DeclaredLaws.{text-declared}
 
 -- ===== The place of a name =====
@@ -57,11 +56,11 @@ there n (x ∷ ns) (suc i) l e = go (sameKey (keyOf x) (keyOf n)) (there n ns i 
 module _ (n : List ℕ) (h : IsName n) (ns : List (List ℕ)) where
   among-place : Every IsName ns → isAmong (keyOf n) (map keyOf ns) ≡ true → PlaceOf n ns (placeOf (keyOf n) (map keyOf ns))
   unfolding isAmong
-  among-place a e = found n h ns a (omega (arith, ltb-true (placeOf (keyOf n) (map keyOf ns)) (length (map keyOf ns)) e, length-map keyOf ns))
+  among-place a e = found n h ns a (omega (arith, ltb-true (placeOf (keyOf n) (map keyOf ns)) (length (map keyOf ns)) e, length-map ns keyOf))
 
   none-place : isAmong (keyOf n) (map keyOf ns) ≡ false → NoPlace n ns
   unfolding isAmong
-  none-place e i l q = clash (lt-ltb (placeOf (keyOf n) (map keyOf ns)) (length (map keyOf ns)) (omega (arith, there n ns i l q, length-map keyOf ns))) e
+  none-place e i l q = clash (lt-ltb (placeOf (keyOf n) (map keyOf ns)) (length (map keyOf ns)) (omega (arith, there n ns i l q, length-map ns keyOf))) e
 
 -- what lines declare are names
 record Names (vs : List (List ℕ)) (xs : List ActionLines) : Type 0 where

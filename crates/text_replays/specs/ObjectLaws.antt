@@ -19,10 +19,6 @@ pub numbers-held : (ns : List (List ℕ)) → numbersIn (map numberEvent ns) ≡
 numbers-held [] = refl
 numbers-held (n ∷ ns) = ap (λ (l : List ℕ). valueOf n ∷ l) (numbers-held ns)
 
-pub length-map : {A B : Type 0} (f : A → B) (xs : List A) → length (map f xs) ≡ length xs
-length-map f [] = refl
-length-map f (x ∷ xs) = ap suc (length-map f xs)
-
 module _ (n : ℕ) (few : n ≤ mostObjects) where
   held : (d : List ℕ) → decimal d < n → valueOf d ≡ decimal d
   unfolding valueOf

@@ -5,7 +5,7 @@ use mathlib.Core.Bool.{Bool, true, false, _&&_, _||_}
 use mathlib.Core.List.{[], _++_, map}
 use Prim.Native.Nat.{ℕ, suc, _+_, _≤_, _<_}
 use native.Mathlib.Omega.{arith}
-use lib.ListN.{length}
+use lib.ListN.{length, length-map}
 use lib.Dec.{eqb, ltb}
 use borrow.Author.Tests.{eqb-true, eqb-false, eq-eqb, ne-eqb, ltb-true, ltb-false, lt-ltb, le-ltb}
 use Rattle.basics.specs.Tests.{and-left, and-right, Flag, isTrue, isFalse, flag, Either, one, other, either, or-one, or-other}
@@ -41,7 +41,7 @@ use Rattle.text_moves.specs.Claims.{inHand}
 use Rattle.text_moves.specs.LineLaws.{unplaced-value, value-unplaced}
 use Rattle.text_replays.specs.Claims.{didBytes, didIn, Stands, hasAction, actionParameters, hasVariant, NamesPass, weightOf, nextOf, factsOfNext, RewardTooLarge, rewardsMet, MayDid, MovesOn}
 use Rattle.text_replays.specs.Claims.{RefusesDid, in-model, missing, no-action, other-count, no-variant, no-object, weightless, crowded, large, tally}
-use Rattle.text_replays.specs.ObjectLaws.{length-map, objects-held, objects-below, below-objects, not-below}
+use Rattle.text_replays.specs.ObjectLaws.{objects-held, objects-below, below-objects, not-below}
 use Rattle.text_replays.specs.LineLaws.{readOf, model-refused, unplaced-refused, stands-said, movedTo, read-by}
 use Rattle.text_replays.specs.MoveLaws.{replayBy, sessionBy, checkedBy, did-by, next-alike, next-facts, next-count, next-total, next-placed}
 
@@ -95,10 +95,10 @@ module _ (σ : Session) (g : GoodSession σ) (w : Words K.Did) where
   -- ===== What is read, where the place is right =====
 
   count-true : length (w .2) ≡ actionParameters σ w → eqb (length (map valueOf (w .2))) (actionParameters σ w) ≡ true
-  count-true e = eq-eqb _ _ (length-map valueOf (w .2) ∙ e)
+  count-true e = eq-eqb _ _ (length-map (w .2) valueOf ∙ e)
 
   true-count : eqb (length (map valueOf (w .2))) (actionParameters σ w) ≡ true → length (w .2) ≡ actionParameters σ w
-  true-count e = sym (length-map valueOf (w .2)) ∙ eqb-true _ _ e
+  true-count e = sym (length-map (w .2) valueOf) ∙ eqb-true _ _ e
 
   -- names and counts pass: what replay says of the objects as they are written
   named-read : NamesPass σ w → readOf σ w ≡ movedTo σ w (map decimal (w .2))

@@ -30,14 +30,15 @@ use Rattle.session.specs.Replies.{Reply, isPlaced, reply}
 use Rattle.session.specs.Texts.{afterLines, beginning, replyBytes}
 use Rattle.session.specs.Good.{GoodSession}
 use Rattle.session_laws.specs.TextReplies.{replies}
-use Rattle.session_laws.specs.TextRuns.{isRefused}
+use Rattle.session_laws.specs.TextRuns.{isRefused, movesState}
 use Rattle.session_laws.specs.FoldLaws.{replies-count}
+use Rattle.session_laws.specs.KeepLaws.{Keeps, line-keeps, Kept, lines-keep}
 use Rattle.session_laws.specs.TextLaws.{text-sound}
-use Rattle.text_moves.specs.Claims.{movesState, inHand}
+use Rattle.text_moves.specs.Claims.{inHand}
 use Rattle.text_replays.specs.Claims.{didBytes, reached, repliesAfter, AcceptedAs, didIn, Undisturbed, Logs, stateBefore, LogOf, Replays, Begins, didPrints}
 use Rattle.text_replays.specs.LineLaws.{did-kind}
 use Rattle.text_replays.specs.RefusalLaws.{may-did, did-may}
-use Rattle.text_replays.specs.KeepLaws.{KeepsModel, line-model, lines-model, Effect, stays, clears, places, tells, does, effect}
+use Rattle.text_replays.specs.KeepLaws.{StateEffect, stays, clears, places, tells, does, effect}
 use Rattle.text_replays.specs.FoldLaws.{behind-both, behind-line, replies-are, replies-line, text-goods}
 use Rattle.text_replays.specs.BeginLaws.{did-stands, text-placed}
 use Rattle.text_replays.specs.FollowLaws.{logs-are, same-logs, more-logs, Followed, follow, still}
@@ -55,8 +56,8 @@ module _ (before log : List (List ℕ)) where
       (x .0, subst (λ (ys : List Reply). Logs (reached (before ++ log)) log ys (x .0)) (replies-are before log) (x .1))
 
   -- in the run names and model stay
-  kept : reached before .part ≡ Run → KeepsModel (reached before) (reached (before ++ log))
-  kept p = subst (KeepsModel (reached before)) (sym (behind-both before log)) (lines-model (afterLines beginning before) p log)
+  kept : reached before .part ≡ Run → Kept (reached before) log (reached (before ++ log))
+  kept p = subst (Kept (reached before) log) (sym (behind-both before log)) (lines-keep (afterLines beginning before) p log)
 
   -- and it begins with the state in hand behind `before`
   pub state-before : reached before .part ≡ Run → stateBefore before log ≡ inHand (reached before)
@@ -176,8 +177,8 @@ module _ (before log : List (List ℕ)) (begins : reached before .live .count �
 
   module _ (f : isRefused (answered .answer) ≡ false) where
     -- it stands in the run, so that names and model stay
-    stays-on : KeepsModel here (reached (before ++ longer))
-    stays-on = subst (KeepsModel here) (sym there) (line-model here (did-stands here number (didBytes w) (did-kind w good, f) .run) number (didBytes w))
+    stays-on : Keeps here (lineKind (didBytes w)) (reached (before ++ longer))
+    stays-on = subst (Keeps here (lineKind (didBytes w))) (sym there) (line-keeps here (did-stands here number (didBytes w) (did-kind w good, f) .run) number (didBytes w))
 
     longer-logged : LogOf before longer more
     longer-logged =
@@ -231,7 +232,7 @@ begins-more ls s b = go (effect (reached ls) (suc (length ls)) s)
     not-counted n (equal h) = h
     not-counted n (above h) = absurd (n (text-placed ls h .placed))
 
-    go : Effect (reached ls) (lineKind s) y → Begins (ls ++ (s ∷ []))
+    go : StateEffect (reached ls) (lineKind s) y → Begins (ls ++ (s ∷ []))
     go (stays t e) = on (
       (λ a. clash (t (ap movesState (a .0))) (a .1)),
       (λ a. clash (t (ap movesState (a .0))) (a .1)),

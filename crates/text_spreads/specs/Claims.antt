@@ -29,14 +29,11 @@ use Rattle.session.specs.declared.Part.the-variants.{Model as ModelPart, Run}
 use Rattle.session.specs.Session.{Session}
 use Rattle.session.specs.Replies.{Reply, withLive, refusal, reply}
 use Rattle.session.specs.Texts.{replyBytes}
-use Rattle.session_laws.specs.LineAnswers.{entryLines}
+use Rattle.session_laws.specs.LineAnswers.{valueLine, entryLines}
 
--- the line (count n), w the digits of n; the line (value)
+-- the line (count n), w the digits of n
 abbrev pub countLine : List ℕ → List ℕ
 countLine w = lineBytes (line K.Count w)
-
-abbrev pub valueLine : List ℕ
-valueLine = lineBytes (line K.Value tt)
 
 -- ===== The states =====
 

@@ -1,7 +1,7 @@
 -- What (count n) prints, of every text (document 02, L11). What the states and their entries are stands in spread, what a session replies in session.
 --
 -- Definitions: states
---   countLine, valueLine == these lines in bytes
+--   countLine == this line in bytes
 --   groundIn == how many ground facts there are with n objects
 --   choiceOf, withChoice == the state of a choice, the constants placed as they are now; the session with it in hand
 --   valueAt == the value in it

@@ -37,7 +37,8 @@ use Rattle.session.specs.Session.{Session, refuseIf}
 use Rattle.session.specs.Running.{stateIn, valueRead, countRead}
 use Rattle.session.specs.Replies.{Reply, eachPlaced, unless, allowed, refusal, valueSays, countSays, done, placed, replyTo, wordsOf, reply}
 use Rattle.session.specs.Good.{GoodSession}
-use Rattle.text_spreads.specs.Claims.{countLine, valueLine, choiceOf, withChoice, valueAt, AllPlaced, AllBelow, MeetsLarge, PrintsValue}
+use Rattle.session_laws.specs.LineAnswers.{valueLine}
+use Rattle.text_spreads.specs.Claims.{countLine, choiceOf, withChoice, valueAt, AllPlaced, AllBelow, MeetsLarge, PrintsValue}
 
 -- ===== Its place =====
 

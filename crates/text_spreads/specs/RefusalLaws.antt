@@ -50,9 +50,6 @@ module _ (σ : Session) (g : GoodSession σ) (settled : Settled σ) (n : ℕ) wh
   abbrev tooLargeAt : ℕ → Bool
   tooLargeAt c = isTooLarge (σ .model .arities) (choiceOf σ n c) [] (listing (σ .held .diagram))
 
-  abbrev someLarge : Bool
-  someLarge = someTooLarge (σ .model .arities) (length (σ .names .predicates)) n (σ .live .constants) (listing (σ .held .diagram))
-
   -- ===== What is read, where the place is right =====
 
   -- r refuses it for n, the constants, the ground facts or a state

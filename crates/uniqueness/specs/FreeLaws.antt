@@ -1,18 +1,17 @@
 -- What freeing gives is the only reduced ordered diagram with its meaning (demand 2).
 use mathlib.Core.Path.{_≡_, refl, sym, subst}
-use mathlib.Core.Bool.{true, _||_}
+use mathlib.Core.Bool.{true}
 use mathlib.Core.List.{List}
 use Prim.Native.Nat.{ℕ, _+_, _*_, _<_}
 use native.Mathlib.Omega.{arith}
 use lib.ListN.{length, take}
-use lib.Dec.{leb}
-use borrow.Author.Tests.{ltb-true, leb-true}
-use Rattle.basics.specs.Tests.{and-left, and-right, Flag, isTrue, isFalse, flag, Either, one, other, either, Cmp, below, equal, above, cmp}
+use Rattle.basics.specs.Tests.{Flag, isTrue, isFalse, flag, Cmp, below, equal, above, cmp}
 use Rattle.basics.specs.Members.{clash}
 use Rattle.refusal.specs.Outcome.{Outcome, ok, refused, Accepted}
 use Rattle.refusal.specs.OutcomeLaws.{accepted-mono, accepted-refused}
-use Rattle.label.specs.Limits.{constantCount, firstParameter, parameterCount, firstVariable, firstMinimum}
-use Rattle.label.specs.Terms.{isConstant, isParameter, isVariable, isMinimum, isTerm}
+use Rattle.label.specs.Limits.{firstParameter, firstVariable, firstMinimum}
+use Rattle.label.specs.Terms.{isTerm}
+use Rattle.label.specs.LabelLaws.{low-term}
 use Rattle.label.specs.Renamings.{freeing}
 use Rattle.label.specs.RenamingLaws.{Freed, freeing-increasing}
 use Rattle.diagram.specs.Diagram.{Diagram}
@@ -30,23 +29,6 @@ use Rattle.regression.specs.FreeCallLaws.{IsFreed, free-is, free-listing}
 use Rattle.uniqueness.specs.Meaning.{TheOnly, TheOnlyListing, freeMeaning}
 use Rattle.uniqueness.specs.OnlyLaws.{good-only, only-written}
 use Rattle.uniqueness.specs.ThroughLaws.{renamed-means}
-
--- no term stands between the parameters and the variables
-low-term : (t : ℕ) → isTerm t ≡ true → t < firstVariable → t < firstParameter + parameterCount
-unfolding isTerm isConstant isParameter isVariable isMinimum
-low-term t e h = go (either (isConstant t) _ e)
-  where
-    last : Either (isVariable t) (isMinimum t) → t < firstParameter + parameterCount
-    last (one q) = absurd (omega (arith, leb-true firstVariable t (and-left (leb firstVariable t) _ q)))
-    last (other q) = absurd (omega (arith, leb-true firstMinimum t (and-left (leb firstMinimum t) _ q)))
-
-    rest : Either (isParameter t) (isVariable t || isMinimum t) → t < firstParameter + parameterCount
-    rest (one q) = ltb-true t (firstParameter + parameterCount) (and-right (leb firstParameter t) _ q)
-    rest (other q) = last (either (isVariable t) _ q)
-
-    go : Either (isConstant t) (isParameter t || (isVariable t || isMinimum t)) → t < firstParameter + parameterCount
-    go (one q) = omega (arith, ltb-true t constantCount q)
-    go (other q) = rest (either (isParameter t) _ q)
 
 module _ (ar : List ℕ) (count : ℕ) (d r : Diagram) (g : Good ar d) (f : IsFreed ar count d r) where
   freeable : Freeable ar count d

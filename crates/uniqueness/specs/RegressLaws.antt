@@ -3,13 +3,11 @@ use mathlib.Core.Path.{_≡_, refl, ap, sym, _∙_, subst, fun-ext}
 use mathlib.Core.Bool.{Bool, true, false, cond, not, _||_}
 use mathlib.Core.List.{List}
 use mathlib.Core.Option.{Option, some, none}
-use Prim.Native.Nat.{ℕ, _*_, _-_, _≤_, _<_}
+use Prim.Native.Nat.{ℕ, _*_, _-_, _≤_}
 use native.Mathlib.Omega.{arith}
 use lib.ListN.{length, take}
 use lib.Dec.{eqb, ltb}
-use borrow.Author.Tests.{eqb-true, eq-eqb, not-false}
-use Rattle.basics.specs.Tests.{Flag, isTrue, isFalse, flag}
-use Rattle.basics.specs.Members.{clash}
+use borrow.Author.Tests.{not-false}
 use Rattle.refusal.specs.declared.Refusal.the-variants.{Listing, Buffer}
 use Rattle.refusal.specs.Outcome.{Outcome, ok, refused, Accepted}
 use Rattle.refusal.specs.OutcomeLaws.{accepted-mono, accepted-cond}
@@ -30,9 +28,9 @@ use Rattle.regression.specs.Result.{truthGiven, truthDiagram, regressedDiagram}
 use Rattle.regression.specs.ResultLaws.{eval-replaced, eval-regressed, good-regressed}
 use Rattle.regression.specs.Next.{next, meanings}
 use Rattle.regression.specs.NextLaws.{truth-value}
-use Rattle.regression.specs.Parameters.{Labels, GoodTruth, GoodTruths}
-use Rattle.regression.specs.RegressCall.{truthCount, truthWords, truthsOf, areListings, regressedAs, writtenAs, regressOutcome, regressAnswer, regressResult}
-use Rattle.regression.specs.RegressCallLaws.{PassAll, accepted-checks, truths-none, truths-some, listings-at, above-most}
+use Rattle.regression.specs.Parameters.{Labels, GoodTruths}
+use Rattle.regression.specs.RegressCall.{truthsOf, areListings, regressedAs, writtenAs, regressOutcome, regressAnswer, regressResult}
+use Rattle.regression.specs.RegressCallLaws.{accepted-checks, truths-passed}
 use Rattle.uniqueness.specs.Meaning.{Choice, TheOnly, TheOnlyListing, usedAt, nextChoice, regressMeaning}
 use Rattle.uniqueness.specs.OnlyLaws.{good-only, only-written}
 
@@ -76,25 +74,6 @@ regressed-only ar truths d g h = accepted-mono (regressed-is ar truths d) (λ r 
 -- ===== The call on lent words =====
 
 module _ (ar value truths spans : List ℕ) where
-  -- what passes the checks are good truth diagrams
-  truths-good : areListings ar truths spans 1 (predicateCount - 1) ≡ true → PassAll ar (truthsOf truths spans) 1 (predicateCount - 1) → GoodTruths ar (truthsOf truths spans)
-  truths-good h pass = record { each = λ p d i j e. go p d i j e (flag (eqb (truthCount spans p) 0)) }
-    where
-      go : (p : ℕ) (d : Diagram) → 0 < p → p < predicateCount → truthsOf truths spans p ≡ some d → Flag (eqb (truthCount spans p) 0) → GoodTruth ar d
-      go p d i j e (isTrue k) =
-          let z : none ≡ some d = sym (truths-none truths spans p (eqb-true _ _ k)) ∙ e in
-          let w : _≡_ {A = ℕ} 0 1 = cc in
-          absurd (omega arith)
-      go p d i j e (isFalse k) =
-          let n : truthCount spans p ≡ 0 → ⊥ = λ q. clash (eq-eqb _ _ q) k in
-          let z : some (diagramOf (truthWords truths spans p)) ≡ some d = sym (truths-some truths spans p n) ∙ e in
-          let q : diagramOf (truthWords truths spans p) ≡ d = cc in
-          let g = is-listing-good ar (truthWords truths spans p) (listings-at ar truths spans 1 (predicateCount - 1) h p (omega arith) (omega arith) n) in
-          record {
-            labels = subst (Labels ar) q (fine-every ar (diagramOf (truthWords truths spans p)) (g .fine));
-            bits = above-most 1 d (pass .each p d (omega arith) (omega arith) e .bits);
-          }
-
   outcome-only : (outLength workLength : ℕ)
       → Accepted (TheOnly ar (regressMeaning ar (truthsOf truths spans) (diagramOf value))) (regressOutcome ar value truths spans outLength workLength)
   unfolding regressOutcome
@@ -103,7 +82,7 @@ module _ (ar value truths spans : List ℕ) where
       accepted-cond (not (areListings ar truths spans 1 (predicateCount - 1))) Listing _ (λ l.
       accepted-cond (ltb outLength resultWords || ltb workLength spaceWords) Buffer _ (λ b.
       accepted-checks ar (truthsOf truths spans) 1 (predicateCount - 1) _ (λ pass.
-      regressed-only ar (truthsOf truths spans) (diagramOf value) (truths-good (not-false _ l) pass) (is-listing-good ar value (not-false _ v))))))
+      regressed-only ar (truthsOf truths spans) (diagramOf value) (truths-passed ar truths spans (not-false _ l) pass) (is-listing-good ar value (not-false _ v))))))
 
   -- where the call is answered with n rows, the result buffer begins with the only listing that means the regression
   pub regress-only : (workLength : ℕ) (out : List ℕ) (n : ℕ) → regressAnswer ar value truths spans (length out) workLength ≡ Done n
