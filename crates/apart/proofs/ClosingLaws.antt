@@ -51,11 +51,7 @@ module _ (ar : List ℕ) (d : Diagram) (good : Good ar d) (used : List ℕ) (mar
   increasing : Increasing P (mapOf Ts)
   increasing = agreeing P (numbering (variables ar d) (minimums ar d) m n) (mapOf Ts) (closing-increasing ar m n d fit good) agrees
 
-  -- the written map is one of terms
-  pub map-terms : rename.Closable used m n used
-  map-terms = marks-closable ar d used m n used marks (marks .whole) fit
-
-  -- it renames the diagram to the closed one
+  -- the written map renames the diagram to the closed one
   pub map-closes : renamedOf ar Ts d ≡ closedFrom ar m n d
   unfolding closedFrom
   map-closes =

@@ -10,6 +10,7 @@ use Rattle.basics.specs.Members.{mem, NoDup, Within, nodup-le, clash}
 use Rattle.diagram.specs.Diagram.{Diagram, leaf, branch, same}
 use Rattle.diagram.specs.Rows.{onto, rows}
 use Rattle.diagram.specs.DiagramLaws.{same-eq, diagram-test, onto-old, onto-leaf, onto-branch}
+use Rattle.diagram.specs.RowLaws.{onto-mem, onto-fresh}
 use Rattle.apply.specs.Snoc.{mem-snoc, snoc-cases, nodup-snoc, Begins, begins-refl, begins-trans, begins-snoc, mem-begins}
 use Rattle.apply.specs.declared.Operation.{Operation}
 use Rattle.apply.specs.Apply.{node, apply}
@@ -22,7 +23,7 @@ use Rattle.apply.specs.ApplyLaws.{node-same, node-differ, apply-step}
 use Rattle.apply.specs.Course.{Course, stops, descends, course, ending}
 use Rattle.apply.specs.PairLaws.{pair-test}
 use Rattle.apply.specs.VisitLaws.{visit-old, visit-stop, visit-step, visit-within, pairs-within}
-use Rattle.apply.specs.RowLaws.{rows-onto, nothing-rows, onto-mem, onto-fresh, onto-closed}
+use Rattle.apply.specs.RowLaws.{rows-onto, nothing-rows, onto-closed}
 
 -- the laws of `add` and `formed`: nothing else unfolds them
 pub add-old : (d : Diagram) (rs : List Diagram) → mem same d rs ≡ true → add d rs ≡ rs
@@ -85,10 +86,6 @@ formed-begins op rs [] = rw (formed-none op rs) (begins-refl rs)
 formed-begins op rs (p ∷ ps) =
     rw (formed-cons op rs p ps) (begins-trans rs (add (apply op (p .0) (p .1)) rs) (formed op (add (apply op (p .0) (p .1)) rs) ps)
     (add-begins (apply op (p .0) (p .1)) rs) (formed-begins op (add (apply op (p .0) (p .1)) rs) ps))
-
--- forming more pairs only adds
-pub formed-prefix : (op : ℕ → ℕ → ℕ) (rs : List Diagram) (ps qs : List Pair) → Begins ps qs → Begins (formed op rs ps) (formed op rs qs)
-formed-prefix op rs ps qs b = rw (b .whole, formed-append op rs ps (b .rest)) (formed-begins op (formed op rs ps) (b .rest))
 
 pub formed-keeps : (op : ℕ → ℕ → ℕ) (rs : List Diagram) (ps : List Pair) → Within same rs (formed op rs ps)
 formed-keeps op rs ps x h = mem-begins same diagram-test x rs (formed op rs ps) (formed-begins op rs ps) h

@@ -1,20 +1,18 @@
 -- Labels, values and terms of a combination: a good one of good operands.
-use mathlib.Core.Path.{_≡_, refl, sym, _∙_}
-use mathlib.Core.Bool.{true, false, _||_}
+use mathlib.Core.Path.{_≡_, sym, _∙_}
+use mathlib.Core.Bool.{true, false}
 use mathlib.Core.List.{List}
 use Prim.Native.Nat.{ℕ, _≤_}
 use lib.ListN.{length}
-use lib.Dec.{eqb}
 use borrow.Author.Tests.{le-ltb, ltb-false}
-use Rattle.basics.specs.Tests.{Flag, isTrue, isFalse, flag, neither}
-use Rattle.basics.specs.Members.{mem, clash}
-use Rattle.label.specs.Labels.{isLabel, termsOf, unpacked}
+use Rattle.basics.specs.Tests.{Flag, isTrue, isFalse, flag}
+use Rattle.basics.specs.Members.{clash}
+use Rattle.label.specs.Labels.{isLabel}
 use Rattle.diagram.specs.Sizes.{mostRows, highestValue}
 use Rattle.diagram.specs.Diagram.{Diagram, leaf, branch, same, EveryLabel}
 use Rattle.diagram.specs.DiagramLaws.{same-eq}
 use Rattle.diagram.specs.Rows.{rows}
 use Rattle.diagram.specs.Listing.{Fine, Good}
-use Rattle.diagram.specs.Variables.{occurs}
 use Rattle.apply.specs.declared.Operation.{Operation}
 use Rattle.apply.specs.Apply.{node, apply}
 use Rattle.apply.specs.Pairs.{ends, pairs, tooHigh, overflows}
@@ -53,24 +51,6 @@ every-walk op P (on {l = l} {t = t} {u = u} {f = f} {g = g} s m n) x y =
 -- the labels of a combination are labels of its operands
 pub every-apply : (op : ℕ → ℕ → ℕ) (P : ℕ → Type 0) (a b : Diagram) → EveryLabel P a → EveryLabel P b → EveryLabel P (apply op a b)
 every-apply op P a b x y = every-walk op P (walk a b) x y
-
--- the terms of a combination are terms of its operands
-pub every-quiet : (ar : List ℕ) (t : ℕ) (d : Diagram) → occurs ar t d ≡ false → EveryLabel (λ l. mem eqb t (termsOf ar (unpacked l)) ≡ false) d
-unfolding occurs
-every-quiet ar t (leaf v) h = tt
-every-quiet ar t (branch l x y) h =
-    let own = neither (mem eqb t (termsOf ar (unpacked l))) (occurs ar t x || occurs ar t y) h in
-    let below = neither (occurs ar t x) (occurs ar t y) (own .1) in
-    (own .0, every-quiet ar t x (below .0), every-quiet ar t y (below .1))
-
-pub quiet-every : (ar : List ℕ) (t : ℕ) (d : Diagram) → EveryLabel (λ l. mem eqb t (termsOf ar (unpacked l)) ≡ false) d → occurs ar t d ≡ false
-unfolding occurs
-quiet-every ar t (leaf v) h = refl
-quiet-every ar t (branch l x y) h = rw (h .0, quiet-every ar t x (h .1), quiet-every ar t y (h .2))
-
-pub quiet-apply : (op : ℕ → ℕ → ℕ) (ar : List ℕ) (t : ℕ) (a b : Diagram) → occurs ar t a ≡ false → occurs ar t b ≡ false → occurs ar t (apply op a b) ≡ false
-quiet-apply op ar t a b x y =
-    quiet-every ar t (apply op a b) (every-apply op (λ l. mem eqb t (termsOf ar (unpacked l)) ≡ false) a b (every-quiet ar t a x) (every-quiet ar t b y))
 
 -- ranges: labels are the operands', values are the leaf pairs' results
 pub fine-every : (ar : List ℕ) (d : Diagram) → Fine ar d → EveryLabel (λ l. isLabel ar l ≡ true) d

@@ -8,11 +8,12 @@ use lib.ListN.{length}
 use Rattle.basics.specs.Tests.{Cmp, below, equal, above, cmp, Flag, isTrue, isFalse, flag, Either, one, other}
 use Rattle.basics.specs.Members.{mem, NoDup, Within, clash}
 use Rattle.diagram.specs.Diagram.{Diagram, leaf, branch}
+use Rattle.diagram.specs.RowLists.{size}
 use Rattle.apply.specs.Snoc.{Begins, begins-refl, begins-trans, begins-snoc, mem-more, mem-snoc, mem-begins, snoc-cases, nodup-snoc}
 use Rattle.apply.specs.declared.Operation.{Operation}
 use Rattle.apply.specs.Pairs.{Pair, samePair, ends, successor, ClosedPairs, LeastPairs, pairs, pairCount}
 use Rattle.apply.specs.Visit.{visit}
-use Rattle.apply.specs.Walk.{Below, Step, left, right, both, size, small-true, small-false}
+use Rattle.apply.specs.Walk.{Below, Step, left, right, both, small-true, small-false}
 use Rattle.apply.specs.Course.{Course, stops, descends, course}
 use Rattle.apply.specs.PairLaws.{pair-test, successor-step, pairs-root, pairs-least, in-true, in-false, least-count, Where, root, by-true, by-false, pairs-where, pairs-alone}
 

@@ -4,6 +4,7 @@ use Prim.Native.Nat.{ℕ, suc, _+_, _<_}
 use native.Mathlib.Omega.{arith}
 use Rattle.basics.specs.Tests.{below, equal, above, cmp}
 use Rattle.diagram.specs.Diagram.{Diagram, leaf, branch, From}
+use Rattle.diagram.specs.RowLists.{size}
 
 -- l is lower than the label at d's root, if there is one
 abbrev pub Below : ℕ → Diagram → Type 0
@@ -36,11 +37,7 @@ pub from-below : (n l : ℕ) (d : Diagram) → From n d → Below l d → From (
 from-below n l (leaf v) o h = tt
 from-below n l (branch k u g) o h = (h, o .1, o .2)
 
--- how many branches a diagram has as a tree: a pair goes down to smaller ones
-unfoldable pub size : Diagram → ℕ
-size (leaf v) = 0
-size (branch l t f) = suc (size t + size f)
-
+-- a pair goes down to smaller ones
 pub small-true : {l : ℕ} {a b t u f g : Diagram} → Step l a b t u f g → size t + size u < size a + size b
 unfolding size
 small-true (left h) = omega arith

@@ -35,7 +35,7 @@ use Rattle.state.specs.Lent.{allBelow}
 use Rattle.state.specs.Max.{gather, tuples}
 use Rattle.state.specs.MaxLaws.{gather-last}
 use Rattle.names.specs.Many.{many}
-use Rattle.names.specs.ManyLaws.{many-ext, getD-many}
+use Rattle.names.specs.ManyLaws.{many-ext}
 use Rattle.best_move.specs.Inside.{digits, Tupled}
 
 -- ===== Lists =====
@@ -126,10 +126,6 @@ pub tuples-digits : (n c : ℕ) → 0 < n → tuples n c ≡ many (digits n c) (
 unfolding tuples many digits
 tuples-digits n zero h = sym (ap (many (digits n 0)) (pow-zero n))
 tuples-digits n (suc c) h = tuples-first n c n h (tuples-digits n c h) (omega arith) ∙ ap (many (digits n (suc c))) (sym (pow-succ' n c))
-
--- index i of the tuples is these digits
-pub tuple-at : (n c i : ℕ) → 0 < n → i < n ^ c → getD (tuples n c) i [] ≡ digits n c i
-tuple-at n c i h l = ap (λ x. getD x i []) (tuples-digits n c h) ∙ getD-many (digits n c) [] (n ^ c) i l
 
 -- ===== objects_at =====
 

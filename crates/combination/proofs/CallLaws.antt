@@ -1,9 +1,8 @@
 -- The ways out of the public call.
 use mathlib.Core.Path.{_≡_, refl, sym, ap, subst, _∙_}
-use mathlib.Core.Bool.{Bool, true, false, not, cond, _&&_, _||_}
+use mathlib.Core.Bool.{Bool, true, false, not, cond, _&&_}
 use mathlib.Core.List.{List}
 use Prim.Native.Nat.{ℕ, _≤_, _<_}
-use native.Mathlib.Omega.{arith}
 use lib.ListN.{length}
 use lib.Dec.{eqb, ltb}
 use borrow.Author.Tests.{lt-ltb}
@@ -23,7 +22,7 @@ use Rattle.apply.specs.declared.Operation.the-variants.{Max}
 use Rattle.apply.specs.declared.Names.{Names}
 use Rattle.apply.specs.declared.Names.the-variants.{Apart, Shared}
 use Rattle.apply.specs.declared.Combined.{Combined}
-use Rattle.apply.specs.declared.Combined.the-variants.{Done, Refused}
+use Rattle.apply.specs.declared.Combined.the-variants.{Refused}
 use Rattle.apply.specs.Combination.{combination, doneAs, combineAnswer, combineResult, written}
 use Rattle.apply.specs.CombinationLaws.{answer-first, answer-second, answer-buffer, answer-diagrams, result-refused}
 use Rattle.combine.specs.Calls.{Callable, Answered}

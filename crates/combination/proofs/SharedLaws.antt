@@ -1,11 +1,9 @@
 -- The ways through a shared combination.
 use mathlib.Core.Path.{_≡_, refl, sym, ap, _∙_, subst}
-use mathlib.Core.Logic.{_≢_}
-use mathlib.Core.Bool.{Bool, true, false}
-use mathlib.Core.List.{List, [], _∷_, _++_}
+use mathlib.Core.List.{List, [], _++_}
 use Prim.Native.Nat.{ℕ, zero, suc, pred, _+_, _*_, _-_, _/_, _≤_, _<_}
 use native.Mathlib.Omega.{arith}
-use lib.ListN.{length, take, drop, replicate, length-replicate, getD, getD-replicate}
+use lib.ListN.{length, take, drop, replicate, length-replicate, getD-replicate}
 use lib.Seq.{length-take-le}
 use lib.Dec.{ltb}
 use borrow.Author.Tests.{lt-ltb, le-ltb, ltb-false}
@@ -17,9 +15,8 @@ use Rattle.diagram.specs.Sizes.{mostRows, spaceRows, mostPairs, highestValue, r
 use Rattle.diagram.specs.Diagram.{Diagram}
 use Rattle.diagram.specs.Rows.{onto, rows}
 use Rattle.diagram.specs.Words.{labelAt, highAt, lowAt, rowCount}
-use Rattle.diagram.specs.Listing.{index, listing, diagramOf}
-use Rattle.diagram.specs.ListingLaws.{length-listing}
-use Rattle.diagram.specs.Validity.{Valid, ValidRow, a-leaf, a-branch, LeafRow, BranchRow, tree}
+use Rattle.diagram.specs.Listing.{listing, diagramOf}
+use Rattle.diagram.specs.Validity.{Valid, ValidRow, a-leaf, a-branch, tree}
 use Rattle.diagram.specs.DiagramOfListing.{shown-rows, diagram-is}
 use Rattle.diagram.specs.RowLists.{Written}
 use Rattle.diagram.specs.WrittenRows.{written-listing-words}
@@ -32,7 +29,7 @@ use Rattle.apply.specs.Pairs.{pairs, pairCount, overflows}
 use Rattle.apply.specs.Combination.{operate, combination, diagramAnswer, written, rowsFormed}
 use Rattle.apply.specs.CombinationLaws.{rows-shared}
 use Rattle.apply.specs.RowLaws.{rows-onto}
-use Rattle.plan.specs.Walk.{Leads, Leading}
+use Rattle.plan.specs.Walk.{Leads}
 use Rattle.plan.specs.Plan.{Clean}
 use Rattle.plan.specs.PlanLaws.{index-empty}
 use Rattle.table.proofs.TableLaws.{clean-made}
@@ -40,8 +37,8 @@ use Rattle.store.specs.Space.{diagramsOf, Holds}
 use Rattle.store.proofs.SpaceLaws.{holds-none, diagrams-none, length-diagrams}
 use Rattle.combine.specs.RowPairs.{Operand}
 use Rattle.combine.specs.Paired.{Pairable}
-use Rattle.combine.specs.Joining.{rowsAfter, joinAnswer, countAfter, diagramsAfter, Joint}
-use Rattle.combine.specs.Calls.{few, Callable, Answered}
+use Rattle.combine.specs.Joining.{joinAnswer, countAfter, diagramsAfter, Joint}
+use Rattle.combine.specs.Calls.{few, Answered}
 use Rattle.combine.specs.declared.Joined.{Joined}
 use Rattle.combine.specs.declared.Joined.the-variants.{At, TooManyPairs, TooHighValue, NoRoom}
 use Rattle.combination.specs.Finishing.{rowsIn, finishAnswer, finishWords, Finishable, Finished}
@@ -59,12 +56,6 @@ module _ {n p : ℕ} {s out : List ℕ} (able : Finishable (At 0 n p) s out) whe
     answer = rw (le-ltb mostRows n h);
     words = rw (le-ltb mostRows n h, length-take-le (n * 3) s (able .there)) e;
   }
-
-  pub rows-there : n * 3 ≤ length s
-  rows-there = able .there
-
-  pub rows-room : n ≤ mostRows → n * 3 ≤ length out
-  rows-room h = omega (arith, able .room)
 
 -- finish
 module _ {r : Joined} {s out : List ℕ} where
@@ -174,9 +165,6 @@ module _ (op : Operation) (ar : List ℕ) (a b : Diagram) where
       ∙ ap listing (sym combination-is)
 
 -- shared_few and shared_many
-pub operands-of : {ar x y out work : List ℕ} → Callable ar x y out work → Operands ar x y work
-operands-of c = record { first = c .first; second = c .second; room = c .work-room }
-
 pub shared-in : (op : Operation) (limit : ℕ) (ar x y work : List ℕ) {r : Joined} {s heads links hs : List ℕ} → Operands ar x y work
     → Joint op limit (tree x (length x / 3 - 1)) (tree y (length y / 3 - 1)) work 0 r s heads links hs → SharedIn op limit x y work r s
 shared-in op limit ar x y work {r} {s} {heads} {links} {hs} c j = record {

@@ -1,9 +1,9 @@
 -- How a shared combination ends: the rows formed in an empty space are the result's listing (document 01, section 'Combination').
 use mathlib.Core.Path.{_≡_}
 use mathlib.Core.Bool.{cond}
-use mathlib.Core.List.{List, _++_}
+use mathlib.Core.List.{List}
 use Prim.Native.Nat.{ℕ, _*_, _≤_}
-use lib.ListN.{length, take, drop}
+use lib.ListN.{length, take}
 use lib.Dec.{ltb}
 use Rattle.refusal.specs.declared.Refusal.the-variants.{Pairs, Value, Space}
 use Rattle.diagram.specs.Sizes.{mostRows, resultWords}

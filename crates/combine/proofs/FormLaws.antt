@@ -43,9 +43,6 @@ unfolding entryAt
 entry-branch op ws s k e = rw e
 
 -- form_at
-pub entry-of : {op : Operation} {ws : List ℕ} {n k count : ℕ} → FormableAt op ws n k count → EntryOf ws n k
-entry-of f = record { room = f .room; less = f .less }
-
 module _ {op : Operation} {ws : List ℕ} {n k count : ℕ} (f : FormableAt op ws n k count) {l x y : ℕ}
     (el : l ≡ pairLabelAt ws k) (ex : x ≡ firstAt ws k) (ey : y ≡ secondAt ws k) where
   pub leaf-calm : l ≡ leafMark → Calm op x y
@@ -158,9 +155,6 @@ getD-less ds es j h = List·getD-append ds es (leaf 0) j h
 -- form: each step
 module _ {op : Operation} {ws₀ : List ℕ} {rs : List Diagram} {n : ℕ} (able : Formable op ws₀ n) {ws : List ℕ} {k : ℕ} {s heads links : List ℕ} {rows : ℕ}
     (now : Forming op ws₀ rs ws k s heads links rows) (less : k < n) where
-  done : List Diagram
-  done = results (operate op) ws₀ k
-
   end-same : isEndAt ws k ≡ isEndAt ws₀ k
   unfolding isEndAt
   end-same = ap (λ (l : ℕ). eqb l leafMark) (now .labels k)

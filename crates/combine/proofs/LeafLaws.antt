@@ -1,15 +1,14 @@
 -- The ways through the functions that check and combine leaves.
-use mathlib.Core.Path.{_≡_, refl, sym, ap, _∙_}
-use mathlib.Core.Bool.{Bool, true, false, _&&_, _||_}
+use mathlib.Core.Path.{_≡_, sym, ap, _∙_}
+use mathlib.Core.Bool.{Bool, true, false, _||_}
 use mathlib.Core.List.{List}
 use Prim.Native.Nat.{ℕ, zero, suc, _+_, _*_, _/_, _≤_, _<_, max}
 use native.Mathlib.Omega.{arith}
 use native.Mathlib.Nat.{mul-le-mul, mul-le-mul-left, mul-div-le, lt-mul-div-succ, le-trans, lt-of-lt-of-le}
 use native.Mathlib.Numerals.{add-one}
-use lib.ListN.{getD}
-use lib.Dec.{eqb, ltb}
-use borrow.Author.Tests.{ltb-true, ltb-false, lt-ltb, le-ltb, eq-eqb, ne-eqb}
-use Rattle.basics.specs.Tests.{Cmp, below, equal, above, cmp, Flag, isTrue, isFalse, flag, or-one, or-other}
+use lib.Dec.{ltb}
+use borrow.Author.Tests.{ltb-false, lt-ltb, le-ltb}
+use Rattle.basics.specs.Tests.{Cmp, below, equal, above, cmp, or-one, or-other}
 use Rattle.label.specs.Limits.{leafMark}
 use Rattle.diagram.specs.Sizes.{highestValue}
 use Rattle.apply.specs.declared.Operation.{Operation}
@@ -17,7 +16,7 @@ use Rattle.apply.specs.declared.Operation.the-variants.{Sum, Product, Max}
 use Rattle.apply.specs.Combination.{operate}
 use Rattle.plan.specs.Plan.{pairLabelAt, firstAt, secondAt}
 use Rattle.combine.specs.Callers.{Values, Calm}
-use Rattle.combine.specs.Results.{isEndAt, exceedsAt, exceeds, Sound, SoundAt}
+use Rattle.combine.specs.Results.{exceedsAt, exceeds, SoundAt}
 use Rattle.combine.specs.ResultLaws.{end-at, branch-at, exceeds-none, exceeds-more}
 
 -- products

@@ -1,27 +1,23 @@
 -- A plan's rows formed are the rows of the combination.
 use mathlib.Core.Path.{_≡_, refl, sym, ap, _∙_, subst}
-use mathlib.Core.Bool.{Bool, true, false}
-use mathlib.Core.List.{List, [], _∷_}
+use mathlib.Core.Bool.{true, false}
+use mathlib.Core.List.{List}
 use Prim.Native.Nat.{ℕ, _-_, _≤_, _<_}
 use native.Mathlib.Omega.{arith}
 use lib.ListN.{length, getD, take}
-use lib.Dec.{ltb, leb}
+use lib.Dec.{ltb}
 use borrow.Author.Tests.{lt-ltb, le-ltb, ltb-true, ltb-false}
 use Rattle.basics.specs.Tests.{Flag, isTrue, isFalse, flag}
-use Rattle.basics.specs.Members.{mem}
 use Rattle.diagram.specs.Sizes.{spaceRows}
-use Rattle.diagram.specs.Diagram.{Diagram, leaf, branch, same}
-use Rattle.diagram.specs.Rows.{onto}
+use Rattle.diagram.specs.Diagram.{Diagram, leaf, branch}
 use Rattle.diagram.specs.Listing.{index}
 use Rattle.diagram.specs.RowLists.{Kept}
 use Rattle.diagram.specs.RowLaws.{kept-children}
-use Rattle.diagram.specs.Validity.{tree}
 use Rattle.apply.specs.declared.Operation.{Operation}
 use Rattle.apply.specs.Combination.{operate}
 use Rattle.apply.specs.Apply.{apply}
 use Rattle.apply.specs.Pairs.{pairs, pairCount, overflows}
 use Rattle.apply.specs.Formed.{ClosedRows}
-use Rattle.plan.specs.Plan.{Clean}
 use Rattle.store.specs.declared.Formed.{Formed}
 use Rattle.store.specs.declared.Formed.the-variants.{Row, Full}
 use Rattle.store.specs.Space.{diagramsOf, Holds, Formation, addAll}
@@ -30,7 +26,7 @@ use Rattle.combine.specs.Results.{results}
 use Rattle.combine.specs.ResultLaws.{length-results}
 use Rattle.combine.specs.Forming.{lastOf, Formable}
 use Rattle.combine.specs.Paired.{pairAnswer, Forms, PairedUp}
-use Rattle.combine.specs.Joining.{rowsAfter, joinAnswer, countAfter, diagramsAfter, Joint, joinedAs, FormedAll}
+use Rattle.combine.specs.Joining.{rowsAfter, joinAnswer, Joint, joinedAs, FormedAll}
 use Rattle.combine.specs.declared.Paired.{Paired}
 use Rattle.combine.specs.declared.Paired.the-variants.{Pairs, TooMany, TooHigh}
 use Rattle.combine.specs.declared.Joined.{Joined}

@@ -1,27 +1,25 @@
 -- A walk's plan forms the combination of the two diagrams.
-use mathlib.Core.Path.{_≡_, refl, ap, ap₂, sym, _∙_, subst}
+use mathlib.Core.Path.{_≡_, refl, ap, sym, _∙_, subst}
 use mathlib.Core.Bool.{Bool, true, false}
 use mathlib.Core.List.{List, [], _∷_, _++_, map}
 use Prim.Native.Nat.{ℕ, zero, suc, _+_, _-_, _≤_, _<_}
 use native.Mathlib.Omega.{arith}
-use lib.ListN.{length, getD, take, length-append, length-map}
-use lib.Seq.{take-all, getD-at, getD-append-seam}
-use lib.Dec.{ltb, leb}
+use lib.ListN.{length, getD, length-append, length-map}
+use lib.Seq.{take-all, getD-at}
+use lib.Dec.{leb}
 use borrow.Author.Tests.{lt-ltb, le-ltb, leb-true, leb-false}
 use Rattle.basics.specs.Tests.{Flag, isTrue, isFalse, flag}
 use Rattle.diagram.specs.Diagram.{Diagram, leaf}
-use Rattle.diagram.specs.Rows.{onto}
 use Rattle.diagram.specs.Validity.{tree}
 use Rattle.apply.specs.declared.Operation.{Operation}
 use Rattle.apply.specs.Combination.{operate}
-use Rattle.apply.specs.Apply.{apply}
 use Rattle.apply.specs.Pairs.{pairs, pairCount, overflows}
 use Rattle.apply.specs.Visit.{visit}
 use Rattle.apply.specs.VisitLaws.{visit-count}
 use Rattle.apply.specs.OverflowLaws.{overflows-visit}
-use Rattle.apply.specs.Formed.{formed, ClosedRows}
+use Rattle.apply.specs.Formed.{formed}
 use Rattle.apply.specs.FormedLaws.{formed-visit}
-use Rattle.plan.specs.Walk.{isEnd, onHigh, onLow, finishPairs, walked, Leading}
+use Rattle.plan.specs.Walk.{isEnd, onHigh, onLow, finishPairs, walked}
 use Rattle.plan.specs.Walk as rows
 use Rattle.plan.specs.WalkLaws.{finish-end, finish-branch}
 use Rattle.plan.specs.Plan.{Plan, Clean, Touched, wentTo, Planned, origin}
@@ -33,7 +31,6 @@ use Rattle.combine.specs.Results.{results, exceeds, Sound}
 use Rattle.store.specs.Space.{addAll}
 use Rattle.combine.specs.ResultLaws.{pairResult, results-are, added-formed, exceeds-are, plan-sound, getD-map}
 use Rattle.combine.specs.Paired.{Pairable, pairAnswer, Forms, PairedUp}
-use Rattle.combine.specs.declared.Paired.{Paired}
 use Rattle.combine.specs.declared.Paired.the-variants.{Pairs, TooMany, TooHigh}
 
 -- the root comes last

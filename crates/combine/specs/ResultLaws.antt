@@ -1,18 +1,17 @@
 -- A plan's entries form what its pairs of diagrams form.
-use mathlib.Core.Path.{_≡_, refl, ap, ap₂, sym, _∙_, subst}
-use mathlib.Core.Bool.{Bool, true, false, _&&_, _||_, or-false, or-assoc}
+use mathlib.Core.Path.{_≡_, refl, ap, ap₂, sym, _∙_}
+use mathlib.Core.Bool.{true, false, _&&_, _||_, or-false}
 use mathlib.Core.List.{List, [], _∷_, _++_, map}
-use Prim.Native.Nat.{ℕ, zero, suc, _+_, _*_, _≤_, _<_}
+use Prim.Native.Nat.{ℕ, zero, suc, _+_, _≤_, _<_}
 use native.Mathlib.Omega.{arith}
-use lib.ListN.{length, getD, take, length-append, List·getD-append}
-use lib.Seq.{take-suc, take-all, getD-take, length-take-le}
-use lib.Dec.{eqb, ltb}
-use borrow.Author.Tests.{eqb-true, eqb-false, eq-eqb, ne-eqb}
+use lib.ListN.{length, getD, take, length-append}
+use lib.Seq.{take-suc, getD-take, length-take-le}
+use lib.Dec.{ltb}
+use borrow.Author.Tests.{eq-eqb, ne-eqb}
 use Rattle.basics.specs.Tests.{Flag, isTrue, isFalse, flag}
 use Rattle.label.specs.Limits.{leafMark}
 use Rattle.diagram.specs.Sizes.{highestValue}
 use Rattle.diagram.specs.Diagram.{Diagram, leaf, branch}
-use Rattle.diagram.specs.Words.{labelAt, highAt, lowAt}
 use Rattle.apply.specs.Apply.{node, apply}
 use Rattle.apply.specs.declared.Operation.{Operation}
 use Rattle.apply.specs.Combination.{operate}
@@ -22,11 +21,11 @@ use Rattle.apply.specs.Course.{inner-calm}
 use Rattle.apply.specs.OverflowLaws.{overflows-none, overflows-cons, overflows-append}
 use Rattle.apply.specs.Formed.{add, formed}
 use Rattle.apply.specs.FormedLaws.{formed-none, formed-cons}
-use Rattle.plan.specs.Walk.{isEnd, pairLabel, onHigh, onLow}
+use Rattle.plan.specs.Walk.{isEnd, onHigh, onLow}
 use Rattle.plan.specs.Walk as rows
 use Rattle.plan.specs.WalkLaws.{end-label}
-use Rattle.plan.specs.Plan.{pairLabelAt, firstAt, secondAt, origin, Plan, Entry, Branch, End}
-use Rattle.combine.specs.RowPairs.{Operand, Inside, AllInside, pairTree, Onward, onward, end-forms, word-small}
+use Rattle.plan.specs.Plan.{pairLabelAt, firstAt, secondAt, origin, Plan}
+use Rattle.combine.specs.RowPairs.{Operand, Inside, AllInside, pairTree, onward, end-forms, word-small}
 use Rattle.combine.specs.Results.{isEndAt, resultAt, results, exceedsAt, exceeds, Sound}
 use Rattle.store.specs.Space.{addAll}
 

@@ -1,18 +1,17 @@
 -- The walk over pairs of rows is the walk over pairs of diagrams.
-use mathlib.Core.Path.{_≡_, refl, ap, ap₂, sym, _∙_, subst}
+use mathlib.Core.Path.{_≡_, refl, ap, ap₂, sym, _∙_}
 use mathlib.Core.Logic.{_≢_}
-use mathlib.Core.Bool.{Bool, true, false, _&&_, cond}
+use mathlib.Core.Bool.{true, false}
 use mathlib.Core.List.{List, [], _∷_, _++_, map}
 use Prim.Native.Nat.{ℕ, zero, suc, _+_, _≤_, _<_}
 use native.Mathlib.Omega.{arith}
-use lib.ListN.{length}
-use lib.Dec.{eqb, ltb, leb}
+use lib.Dec.{eqb, ltb}
 use borrow.Author.Tests.{eqb-true, eqb-false, le-leb, lt-leb}
 use Rattle.basics.specs.Tests.{Flag, isTrue, isFalse, flag, Cmp, below, equal, above, cmp}
 use Rattle.basics.specs.Members.{mem, clash}
 use Rattle.label.specs.Limits.{leafMark}
-use Rattle.diagram.specs.Sizes.{highestValue}
-use Rattle.diagram.specs.Diagram.{Diagram, leaf, branch, same}
+use Rattle.diagram.specs.Sizes.{spaceRows, highestValue}
+use Rattle.diagram.specs.Diagram.{Diagram, leaf, branch}
 use Rattle.diagram.specs.Words.{labelAt, highAt, lowAt}
 use Rattle.diagram.specs.Shown.{Shown, same-eqb}
 use Rattle.apply.specs.declared.Operation.{Operation}
@@ -62,7 +61,7 @@ module _ (ws : List ℕ) (m : ℕ) (tree : ℕ → Diagram) (o : Operand ws m tr
       go (isTrue e) = rw (o .shown .leaves k h (eqb-true _ _ e)) refl
       go (isFalse e) = rw (o .shown .branches k h (eqb-false _ _ e)) tt
 
-  pub word-small : k < rows.mostRows → highAt ws k ≤ highestValue
+  pub word-small : k < spaceRows → highAt ws k ≤ highestValue
   word-small l = go (flag (eqb (labelAt ws k) leafMark))
     where
       go : Flag (eqb (labelAt ws k) leafMark) → highAt ws k ≤ highestValue

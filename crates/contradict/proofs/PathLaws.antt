@@ -1,8 +1,8 @@
 -- Laws of the walk over the paths of a listing.
-use mathlib.Core.Path.{_≡_, refl, sym, ap, ap₂, subst, _∙_}
+use mathlib.Core.Path.{_≡_, refl, sym, ap, subst, _∙_}
 use mathlib.Core.Bool.{Bool, true, false, not, _||_, cond}
 use mathlib.Core.List.{List, [], _∷_, map, List·Memᴰ, List·Memᴰ·head, List·Memᴰ·tail}
-use Prim.Native.Nat.{ℕ, zero, suc, pred, _+_, _-_, _*_, _/_, _%_, _≤_, _<_, min}
+use Prim.Native.Nat.{ℕ, zero, suc, pred, _+_, _-_, _/_, _≤_, _<_, min}
 use native.Mathlib.Omega.{arith}
 use lib.ListN.{length, getD, take, replicate, length-replicate}
 use lib.Seq.{length-take-le}
@@ -21,7 +21,8 @@ use Rattle.diagram.specs.RowDiagrams.{tree-fine}
 use Rattle.diagram.specs.DiagramOfListing.{diagram-is, valid-rows}
 use Rattle.diagram.specs.ListingValid.{listing-is-valid}
 use Rattle.paths.specs.Paths.{Literal, Path, paths, literals, mostPaths}
-use Rattle.paths.specs.Routes.{bit, codeOf, codes, pathAt, Rows, Counted, At, Entered}
+use Rattle.paths.specs.Routes.{codeOf, codes, pathAt, Rows, Counted, At, Entered}
+use Rattle.paths.specs.CodeLaws.{half, literals-codes}
 use Rattle.paths.specs.PathLaws.{mem-unmap, path-in, paths-are, listing-rows}
 use Rattle.cutting.specs.Searchable.{PathLabels}
 use Rattle.cutting.specs.CoverLaws.{path-labels, every-path-in, every-path-out}
@@ -32,24 +33,8 @@ use Rattle.contradict.specs.Leading.{leadAnswer, Route, Routed}
 
 -- ===== Literals and their numbers =====
 
-half : (l : ℕ) (b : Bool) → (l * 2 + bit b) / 2 ≡ l
-half l true = omega arith
-half l false = omega arith
-
-odd : (l : ℕ) (b : Bool) → eqb ((l * 2 + bit b) % 2) 1 ≡ b
-odd l true = let e : (l * 2 + 1) % 2 ≡ 1 = omega arith in ap (λ (x : ℕ). eqb x 1) e
-odd l false = let e : (l * 2 + 0) % 2 ≡ 0 = omega arith in ap (λ (x : ℕ). eqb x 1) e
-
-literal-code : (l : Literal) → literalAt (codeOf l) ≡ l
-unfolding literalAt codeOf
-literal-code l = λ i. record { label = half (l .label) (l .sign) i; sign = odd (l .label) (l .sign) i }
-
-literals-codes : (ls : List Literal) → map literalAt (map codeOf ls) ≡ ls
-literals-codes [] = refl
-literals-codes (l ∷ ls) = ap₂ _∷_ (literal-code l) (literals-codes ls)
-
 codes-are : (p : Path) → literalsIn (codes p) ≡ literals p
-unfolding literalsIn codes
+unfolding literalsIn literalAt codes
 codes-are p = literals-codes (literals p)
 
 code-labels : (ar : List ℕ) (ls : List Literal) → ((l : Literal) → List·Memᴰ l ls → isLabel ar (l .label) ≡ true)

@@ -75,10 +75,6 @@ entries-words t (suc n) h =
 
 -- ===== put_entry =====
 module _ (t : List ℕ) (i v s : ℕ) where
-  pub length-put : length (putEntry t i v s) ≡ length t
-  unfolding putEntry
-  length-put = length-set (set t (i * lineWords) v) (i * lineWords + 1) s ∙ length-set t (i * lineWords) v
-
   pub put-same : i * lineWords + lineWords ≤ length t → entryAt (putEntry t i v s) i ≡ record { value = v; states = s }
   unfolding putEntry entryAt
   put-same h =

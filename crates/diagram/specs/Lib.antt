@@ -27,6 +27,7 @@
 --   isListing == the words are a listing under the arity list
 --   index, encode, listing == a row's number among rows; the words of rows; the listing of a diagram
 --   treeAt, diagramOf == the diagram of row i; of the last row, the root
+--   oldMark == what a leaf's first word was before document 02, L8
 --   Fine, Good == labels and values are in their ranges; and the diagram is ordered, reduced, of at most 1,024 rows
 --
 -- Definitions: variables

@@ -8,7 +8,7 @@ use native.Mathlib.Omega.{arith}
 use lib.ListN.{length, getD, take, length-append, List·getD-append}
 use lib.Seq.{take-append-le, take-at, getD-at}
 use lib.Dec.{eqb, ltb, leb}
-use borrow.Author.Tests.{eqb-true, eqb-false, eq-eqb, ne-eqb, ltb-true, lt-ltb, leb-true, le-leb}
+use borrow.Author.Tests.{eqb-true, eqb-false, eq-eqb, ne-eqb, ltb-true, lt-ltb, leb-true, le-leb, not-true}
 use Rattle.basics.specs.Tests.{and-left, and-right, Flag, isTrue, isFalse, flag, Cmp, cmp, below, equal, above, Either, one, other, either, or-one, or-other}
 use Rattle.basics.specs.Members.{mem, mem-append, NoDup, Within, nodup-le, clash}
 use Rattle.label.specs.Limits.{leafMark}
@@ -229,10 +229,6 @@ test-leaf-row : (ws : List ℕ) (i : ℕ) → LeafRow ws i → isLeafRow ws i �
 unfolding isLeafRow
 test-leaf-row ws i r =
     rw (eq-eqb (labelAt ws i) leafMark (r .mark), le-leb (highAt ws i) highestValue (r .value), eq-eqb (lowAt ws i) 0 (r .third))
-
-not-true : (b : Bool) → not b ≡ true → b ≡ false
-not-true true e = clash e refl
-not-true false e = refl
 
 branch-row-test : (ar ws : List ℕ) (i : ℕ) → isBranchRow ar ws i ≡ true → PlainBranch ar ws i
 unfolding isBranchRow

@@ -32,18 +32,6 @@ is-one-listing ar ws us e f h = one-listing ar ws us (listing-is-valid ar ws e) 
 pub one-diagram : (ar : List ℕ) (d e : Diagram) → Good ar d → Good ar e → listing d ≡ listing e → d ≡ e
 one-diagram ar d e g h p = sym (diagram-listing ar d g) ∙ ap diagramOf p ∙ diagram-listing ar e h
 
--- the words ws are the listing of a good diagram
-pub record Listed (ar ws : List ℕ) : Type 0 where
-  pub diagram : Diagram
-  pub good : Good ar diagram
-  pub is : listing diagram ≡ ws
-
-pub listing-listed : (ar ws : List ℕ) → isListing ar ws ≡ true → Listed ar ws
-listing-listed ar ws e = record { diagram = diagramOf ws; good = is-listing-good ar ws e; is = is-listing-diagram ar ws e }
-
-pub listed-listing : (ar ws : List ℕ) → Listed ar ws → isListing ar ws ≡ true
-listed-listing ar ws l = subst (λ x. isListing ar x ≡ true) (l .is) (good-is-listing ar (l .diagram) (l .good))
-
 -- the rows of a listing stand in its words
 pub listing-written : (ar ws : List ℕ) → isListing ar ws ≡ true → Written ws (rows (diagramOf ws))
 listing-written ar ws e =

@@ -11,7 +11,7 @@ use Rattle.basics.specs.Members.{mem, mem-append, NoDup, Within, nodup-le, clas
 use Rattle.diagram.specs.Diagram.{Diagram, leaf, branch, same, From, Reduced}
 use Rattle.diagram.specs.Rows.{onto, rows}
 use Rattle.diagram.specs.Listing.{index}
-use Rattle.diagram.specs.RowLists.{Grown, rowTree, isPart, Earlier, Kept}
+use Rattle.diagram.specs.RowLists.{Grown, rowTree, isPart, size, Earlier, Kept}
 use Rattle.diagram.specs.DiagramLaws.{same-eq, same-refl, diagram-test, from-weaken, onto-old, onto-leaf, onto-branch}
 use Rattle.diagram.specs.WordLaws.{grown-none, grown-more, grown-twice, mem-grown}
 use Rattle.diagram.specs.ListingLaws.{getD-index, index-less, index-append, mem-getD}
@@ -77,10 +77,6 @@ part-reduced x (branch l t f) r h = go (part-branch x l t f h) (part-reduced x t
     go (of-low e) p q = q e
 
 -- a diagram is no part of its children
-unfoldable size : Diagram → ℕ
-size (leaf v) = 0
-size (branch l t f) = suc (size t + size f)
-
 part-size : (x d : Diagram) → isPart x d ≡ true → size x ≤ size d
 unfolding size
 part-size x (leaf v) h = rw (part-leaf x v h) (omega arith)
@@ -138,9 +134,6 @@ onto-keeps (branch l t f) rs =
 
 pub onto-keeps-mem : (d y : Diagram) (rs : List Diagram) → mem same y rs ≡ true → mem same y (onto d rs) ≡ true
 onto-keeps-mem d y rs h = mem-grown same y rs (onto d rs) (onto-keeps d rs) h
-
-pub index-grown : (x : Diagram) (rs qs : List Diagram) → Grown rs qs → mem same x rs ≡ true → index x qs ≡ index x rs
-index-grown x rs qs g h = rw (g .is) (index-append x rs (g .more) h)
 
 -- what `onto` adds is a part of the diagram
 pub onto-from : (d y : Diagram) (rs : List Diagram) → mem same y (onto d rs) ≡ true → Either (mem same y rs) (isPart y d)

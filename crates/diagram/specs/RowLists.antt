@@ -2,7 +2,7 @@
 use mathlib.Core.Path.{_≡_}
 use mathlib.Core.Bool.{Bool, true, _||_}
 use mathlib.Core.List.{List, _++_}
-use Prim.Native.Nat.{ℕ, _<_}
+use Prim.Native.Nat.{ℕ, suc, _+_, _<_}
 use lib.ListN.{length, getD}
 use Rattle.basics.specs.Members.{mem}
 use Rattle.label.specs.Limits.{leafMark}
@@ -23,6 +23,11 @@ rowTree rs k = getD rs k (leaf 0)
 unfoldable pub isPart : Diagram → Diagram → Bool
 isPart x (leaf v) = same x (leaf v)
 isPart x (branch l t f) = same x (branch l t f) || (isPart x t || isPart x f)
+
+-- how many branches a diagram has as a tree
+unfoldable pub size : Diagram → ℕ
+size (leaf v) = 0
+size (branch l t f) = suc (size t + size f)
 
 -- x is one of the first k rows
 pub record Earlier (rs : List Diagram) (k : ℕ) (x : Diagram) : Type 0 where

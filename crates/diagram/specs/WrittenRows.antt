@@ -5,7 +5,7 @@ use mathlib.Core.Bool.{true, false}
 use mathlib.Core.List.{List, [], _∷_, _++_, map}
 use Prim.Native.Nat.{ℕ, zero, suc, _*_, _≤_, _<_}
 use native.Mathlib.Omega.{arith}
-use lib.ListN.{length, getD, take, length-append, length-map, List·getD-append}
+use lib.ListN.{length, getD, take, length-append, List·getD-append}
 use lib.Seq.{getD-at, take-all, take-suc}
 use Rattle.basics.specs.Tests.{Flag, isTrue, isFalse, flag, Cmp, cmp, below, equal, above}
 use Rattle.basics.specs.Members.{mem}
@@ -13,12 +13,12 @@ use Rattle.label.specs.Limits.{leafMark}
 use Rattle.diagram.specs.Diagram.{Diagram, leaf, branch, same}
 use Rattle.diagram.specs.Rows.{rows}
 use Rattle.diagram.specs.Words.{labelAt, highAt, lowAt, upTo}
-use Rattle.diagram.specs.WordLaws.{below-upTo, length-upTo, mem-upTo, getD-upTo, getD-map, map-snoc}
+use Rattle.diagram.specs.WordLaws.{map-snoc}
 use Rattle.diagram.specs.Listing.{index, encode, listing}
 use Rattle.diagram.specs.RowLists.{Earlier, Kept, Encoded, Written, SameRows, rowTree}
 use Rattle.diagram.specs.ListingLaws.{getD-index, index-less, index-append}
 use Rattle.diagram.specs.RowLaws.{kept-none, kept-leaf, kept-branch, kept-index}
-use Rattle.diagram.specs.Shown.{Shown, mem-tree, index-is, words-are}
+use Rattle.diagram.specs.Shown.{Shown, words-are}
 
 all-places : (rs : List Diagram) (d : Diagram) (n : ℕ) → n ≤ length rs → map (λ k. getD rs k d) (upTo n) ≡ take n rs
 all-places rs d zero h = refl
@@ -172,17 +172,3 @@ written-branch ws us rs l t f w s n m mt mf p q r =
     written-more ws us rs (branch l t f) w s (kept-branch rs l t f (w .kept) n mt mf)
     (λ k u g e. let z : l ≡ k = cc in omega arith)
     (p, q ∙ sym (index-append t rs (branch l t f ∷ []) mt), r ∙ sym (index-append f rs (branch l t f ∷ []) mf))
-
--- the diagrams of rows that are shown are kept, each at its number
-module _ (ws : List ℕ) (m : ℕ) (tree : ℕ → Diagram) (s : Shown ws m tree) where
-  shown-length : length (map tree (upTo m)) ≡ m
-  shown-length = length-map (upTo m) tree ∙ length-upTo m
-
-  pub shown-at : (k : ℕ) → k < m → rowTree (map tree (upTo m)) k ≡ tree k
-  shown-at k h = getD-map tree (upTo m) k 0 (leaf 0) (omega (arith, length-upTo m)) ∙ ap tree (getD-upTo m k h)
-
-  pub shown-mem : (k : ℕ) → k < m → mem same (tree k) (map tree (upTo m)) ≡ true
-  shown-mem k h = mem-tree ws m tree s k (upTo m) h (below-upTo m m (omega arith)) ∙ mem-upTo k m h
-
-  shown-earlier : (k j : ℕ) → k < m → j < k → Earlier (map tree (upTo m)) k (tree j)
-  shown-earlier k j h i = record { is-row = shown-mem j (omega arith); before = rw (index-is ws m tree s j m (omega arith) (omega arith)) i }

@@ -52,9 +52,6 @@ module _ {ar ws above heads space env : List ℕ} {n i next used : ℕ} (b : Bra
   unfolding labelAt
   branch-labelled = record { arities = b .ready .sets .valid .arities; label = row-is .label; plain = b .ready .sets .plain i (b .row) (b .branch) }
 
-  pub branch-words : i * 3 + 3 ≤ length ws
-  branch-words = let r = b .row in let w = b .ready .sets .valid .whole in omega arith
-
   high-less : getD ws (i * 3 + 1) 0 < i
   unfolding highAt
   high-less = row-is .high-before

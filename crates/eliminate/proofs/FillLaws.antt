@@ -70,9 +70,6 @@ module _ (s : State) (os : List ℕ) (ar facts heads space : List ℕ) (n l high
     some : 0 < n
     some = subst (λ k. 0 < k) size-is (good .some)
 
-    in-range : (t : ℕ) → envOf env t < n
-    in-range t = subst (λ k. envOf env t < k) size-is (f .range t)
-
     choice : ℕ → List ℕ
     choice c = decoded n (namesOf drops) c env
 

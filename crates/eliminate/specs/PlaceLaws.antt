@@ -1,5 +1,5 @@
 -- Laws of places: each choice has one place below n to the names, and each such place one choice.
-use mathlib.Core.Path.{_≡_, refl, ap, ap₂, sym, _∙_, fun-ext}
+use mathlib.Core.Path.{_≡_, refl, ap, sym, _∙_, fun-ext}
 use mathlib.Core.Bool.{true, false}
 use mathlib.Core.List.{List, [], _∷_}
 use Prim.Native.Nat.{ℕ, zero, suc, _+_, _*_, _/_, _%_, _^_, _≤_, _<_}
@@ -86,12 +86,6 @@ decoded-over n k (v ∷ vs) c d env a =
     ∙ decoded-over n (suc v) vs (c / n) (d / n) (set env v (c % n)) (a .1)
 
 -- ===== Places =====
-place-agree : (n : ℕ) (vs : List ℕ) (θ η : ℕ → ℕ) → ((t : ℕ) → mem eqb t vs ≡ true → θ t ≡ η t) → placeOf n vs θ ≡ placeOf n vs η
-unfolding placeOf
-place-agree n [] θ η e = refl
-place-agree n (v ∷ vs) θ η e =
-    ap₂ (λ x y. x + n * y) (e v (or-one _ _ (eq-eqb v v refl))) (place-agree n vs θ η (λ t m. e t (or-other (eqb t v) _ m)))
-
 digit-less : (n x y N : ℕ) → x < n → y < N → x + n * y < n * N
 digit-less n x y N h k =
     let e : n * suc y ≡ n + n * y = omega arith in

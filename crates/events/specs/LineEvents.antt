@@ -1,6 +1,6 @@
 -- The events of an accepted line, from the first word behind its key word on, are those of its tree.
 use mathlib.Core.Path.{_≡_, refl, sym, ap, _∙_}
-use mathlib.Core.List.{List, [], _∷_, _++_, append-assoc, map}
+use mathlib.Core.List.{List, [], _∷_, _++_, append-assoc, append-nil, map}
 use mathlib.Core.Bool.{Bool, true, false, false≢true}
 use Prim.Native.Nat.{ℕ, _+_, _<_}
 use native.Mathlib.Omega.{arith}
@@ -23,7 +23,6 @@ use Rattle.text.specs.declared.Shape.{Shape}
 use Rattle.text.specs.declared.Shape.the-variants.{Nothing, One, Two, Listed, Paired, Drawn, Named, Headed, Never}
 use Rattle.text.specs.Line.{keyword, shapeOf, variableBytes, Item, itemBytes, GoodItem, ShapeWords, shapeBytes, GoodShape, Words, wordsBytes, GoodWords, lineBytes}
 use Rattle.text.specs.Line.Line.{line}
-use Rattle.events.specs.declared.Event.{Event}
 use Rattle.events.specs.declared.Event.the-variants.{Holds}
 use Rattle.events.specs.Events.{firstWord, nameEvent, variableEvent, numberEvent, diagramEvents, itemEvent, shapeEvents, wordsEvents}
 use Rattle.events.specs.Front.{space, behind, spaces, seen, isIf, atomFront, frontOf, eventsOf}
@@ -95,10 +94,6 @@ listed-events k n xs g h =
     ap eventsOf (append-assoc n W (41 ∷ []))
     ∙ item-events S.Name n (W ++ 41 ∷ []) g (many-ending (itemBytes k) xs)
     ∙ ap (λ es. nameEvent n ∷ es) (items-last k xs h)
-
-append-nil : (l : List Event) → l ++ [] ≡ l
-append-nil [] = refl
-append-nil (a ∷ l) = ap (λ t. a ∷ t) (append-nil l)
 
 diagram-last : (d : Diagram) → GoodDiagram d → eventsOf (diagramBytes d ++ 41 ∷ []) ≡ diagramEvents d
 diagram-last d g =

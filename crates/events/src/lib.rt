@@ -2,8 +2,8 @@
 use text::Kind;
 use words::Key;
 ghost use mathlib.Core.Path.{_≡_};
-ghost use Prim.Native.Nat.{ℕ, _+_, _≤_, _<_};
-ghost use lib.ListN.{length, drop};
+ghost use Prim.Native.Nat.{_+_, _≤_, _<_};
+ghost use lib.ListN.{length};
 ghost use Rattle.events.specs.Events.{firstWord};
 ghost use Rattle.events.specs.Contents.{keyIn, numberIn};
 ghost use Rattle.events.specs.Front.{isEnd, space, behind, spaceBit, spaces, wordAt, isIf, atomFront, numberFront, frontOf, nextAt};

@@ -2,18 +2,17 @@
 use mathlib.Core.Path.{_≡_, refl, sym, ap, ap₂, subst, _∙_}
 use mathlib.Core.Logic.{_⊎_, ⊎-elim}
 use mathlib.Core.List.{List}
-use Prim.Native.Nat.{ℕ, zero, suc, _+_, _-_, _*_, _/_, _≤_, _<_}
+use Prim.Native.Nat.{ℕ, zero, suc, _+_, _-_, _*_, _≤_, _<_}
 use native.Mathlib.Numerals.{add-one}
 use native.Mathlib.Omega.{arith}
 use native.Mathlib.Nat.{add-zero}
 use lib.ListN.{length, getD, set, replicate, length-set, length-replicate, getD-replicate}
 use lib.Seq.{getD-set-same, getD-set-other}
 use Rattle.basics.specs.Tests.{Cmp, below, equal, above, cmp}
-use Rattle.label.specs.Limits.{mostPlaces}
-use Rattle.state.specs.Lent.{factWords, factCount, predicateAt}
+use Rattle.state.specs.Lent.{factWords, predicateAt}
 use Rattle.table.specs.Chains.{prev}
 use Rattle.table.specs.ChainLaws.{test, prev-zero, prev-same, prev-other, prev-le, prev-hits, prev-ext}
-use Rattle.fact_index.specs.Index.{buckets, placeCount, objectAt, hashEnd, hashGap, hashStart, hashStep, hashOf, bucketFor, bucketAt, indexedCount, Indexed, Clean}
+use Rattle.fact_index.specs.Index.{buckets, placeCount, objectAt, hashEnd, hashGap, hashStart, hashStep, hashOf, bucketFor, bucketAt, Indexed, Clean}
 
 -- ===== The bucket of a row =====
 

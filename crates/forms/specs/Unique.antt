@@ -1,6 +1,6 @@
 -- Two well-formed trees that are written as the same bytes are the same tree.
 use mathlib.Core.Path.{_≡_, refl, sym, ap, ap₂, _∙_}
-use mathlib.Core.List.{List, [], _∷_, _++_, append-assoc}
+use mathlib.Core.List.{List, [], _∷_, _++_, append-assoc, append-nil}
 use mathlib.Core.Bool.{false}
 use Prim.Native.Nat.{ℕ, suc, _≤_, _<_}
 use native.Mathlib.Omega.{arith}
@@ -39,10 +39,6 @@ cons-head a b x y e = cc
 -- a name begins with no mark
 no-name : (n : List ℕ) (b : ℕ) (m : List ℕ) → b < 97 → IsName n → n ++ [] ≡ b ∷ m → ⊥
 no-name n b m h g e = let f = name-first n [] g in let z : getD (n ++ []) 0 0 ≡ b = ap (λ l. getD l 0 0) e in omega arith
-
-append-nil : (l : List ℕ) → l ++ [] ≡ l
-append-nil [] = refl
-append-nil (a ∷ l) = ap (λ t. a ∷ t) (append-nil l)
 
 pub term-unique : (t u : Term) → GoodTerm t → GoodTerm u → termBytes t ≡ termBytes u → t ≡ u
 term-unique (term plain n) (term plain m) g h e = ap (term plain) e

@@ -1,19 +1,20 @@
 -- Laws of the code of freeing.
 use mathlib.Core.Path.{_≡_, refl, sym, ap, _∙_}
-use mathlib.Core.Bool.{Bool, true, false, not, _||_}
+use mathlib.Core.Bool.{Bool, true, false, not}
 use mathlib.Core.List.{List, [], _∷_, _++_}
 use Prim.Native.Nat.{ℕ, suc, _+_, _-_, _/_, _≤_, _<_}
 use native.Mathlib.Omega.{arith}
 use lib.ListN.{length, drop, length-map}
-use lib.Dec.{ltb, leb}
-use borrow.Author.Tests.{ltb-true, leb-true, lt-ltb, not-false, not-true}
+use lib.Dec.{ltb}
+use borrow.Author.Tests.{lt-ltb, not-false, not-true}
 use Rattle.refusal.specs.declared.Refusal.{Refusal}
 use Rattle.refusal.specs.declared.Refusal.the-variants.{Listing, Buffer, Unbound, Range, Variables}
 use Rattle.refusal.specs.Outcome.{ok, refused}
-use Rattle.basics.specs.Tests.{Cmp, below, equal, above, cmp, Either, one, other, either, and-left, and-right, or-one, or-other}
+use Rattle.basics.specs.Tests.{Cmp, below, equal, above, cmp, or-one, or-other}
 use Rattle.basics.specs.Members.{clash}
-use Rattle.label.specs.Limits.{constantCount, firstParameter, parameterCount, firstVariable, firstMinimum, termEnd}
-use Rattle.label.specs.Terms.{isConstant, isParameter, isVariable, isMinimum, isTerm}
+use Rattle.label.specs.Limits.{firstParameter, parameterCount, firstVariable, firstMinimum, termEnd}
+use Rattle.label.specs.Terms.{isTerm}
+use Rattle.label.specs.LabelLaws.{low-term}
 use Rattle.label.specs.Renamings.{renamed, freeing, mapOf}
 use Rattle.diagram.specs.Sizes.{resultWords, spaceWords}
 use Rattle.diagram.specs.Diagram.{relabel}
@@ -42,23 +43,6 @@ use Rattle.regression.specs.RegressCallLaws.{any-quiet}
 use Rattle.regression.specs.FreeCallLaws.{free-own, free-listing, free-buffer, free-range, free-refused, freed-refused}
 use Rattle.freeing.specs.FreeTasks.{anySet, FreeTask, FreedWith}
 use Rattle.freeing.specs.MarkLaws.{used-any}
-
--- a term below the variables is a constant or a parameter
-low-term : (t : ℕ) → isTerm t ≡ true → t < firstVariable → t < firstParameter + parameterCount
-unfolding isTerm isConstant isParameter isVariable isMinimum
-low-term t e h = go (either (isConstant t) _ e)
-  where
-    last : Either (isVariable t) (isMinimum t) → t < firstParameter + parameterCount
-    last (one q) = absurd (omega (arith, leb-true firstVariable t (and-left _ _ q)))
-    last (other q) = absurd (omega (arith, leb-true firstMinimum t (and-left _ _ q)))
-
-    rest : Either (isParameter t) (isVariable t || isMinimum t) → t < firstParameter + parameterCount
-    rest (one q) = ltb-true t (firstParameter + parameterCount) (and-right (leb firstParameter t) _ q)
-    rest (other q) = last (either (isVariable t) _ q)
-
-    go : Either (isConstant t) (isParameter t || (isVariable t || isMinimum t)) → t < firstParameter + parameterCount
-    go (one q) = omega (arith, ltb-true t constantCount q)
-    go (other q) = rest (either (isParameter t) _ q)
 
 -- `write_freed`
 length-relabelled : (g : ℕ → ℕ) (ws : List ℕ) → length (relabelled g ws) ≡ length ws

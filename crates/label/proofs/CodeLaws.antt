@@ -7,9 +7,9 @@ use Prim.Native.Nat.{ℕ, zero, suc, _+_, _-_, _*_, _/_, _%_, _^_, _≤_, _<_, m
 use native.Mathlib.Omega.{arith}
 use lib.ListN.{length, getD}
 use lib.Dec.{eqb, ltb, leb}
-use borrow.Author.Tests.{lt-ltb, le-ltb, le-leb, lt-leb, eqb-true, eq-eqb, ne-eqb}
+use borrow.Author.Tests.{lt-ltb, le-ltb, le-leb, lt-leb, eqb-true, eq-eqb, ne-eqb, not-true, not-false}
 use Rattle.basics.specs.Tests.{and-left, Flag, isTrue, isFalse, flag, Cmp, below, equal, above, cmp}
-use Rattle.label.specs.Limits.{constantCount, firstParameter, parameterCount, firstVariable, variableCount, firstMinimum, minimumCount, termBits, termBase, termEnd}
+use Rattle.label.specs.Limits.{constantCount, firstParameter, parameterCount, termBits, termBase, termEnd}
 use Rattle.label.specs.Limits.{predicateCount, equalityArity, mostPlaces}
 use Rattle.label.specs.Terms.{isConstant, isParameter, isVariable, isMinimum, isTerm}
 use Rattle.label.specs.Labels.{areArities, allAtMost, placesOf, placeIn, atomFrom, packed, predicateOf, placeAt, unpacked, placeFits, inOrder, isAtom, isLabel}
@@ -33,43 +33,6 @@ term-low {t} h = go (cmp t constantCount)
     go (below q) = rw (lt-ltb t constantCount q)
     go (equal q) = rw (le-ltb t constantCount (omega arith), le-leb firstParameter t (omega arith), lt-ltb t (firstParameter + parameterCount) h)
     go (above q) = rw (le-ltb t constantCount (omega arith), le-leb firstParameter t (omega arith), lt-ltb t (firstParameter + parameterCount) h)
-
-pub term-gap : {t : ℕ} → firstParameter + parameterCount ≤ t → t < firstVariable → false ≡ isTerm t
-unfolding isTerm isConstant isParameter isVariable isMinimum
-term-gap {t} n h =
-    rw (
-      le-ltb t constantCount (omega arith),
-      le-leb firstParameter t (omega arith),
-      le-ltb t (firstParameter + parameterCount) n,
-      lt-leb firstVariable t h,
-      lt-leb firstMinimum t (omega arith),
-    )
-
-pub term-high : {t : ℕ} → firstVariable ≤ t → ltb t (firstMinimum + minimumCount) ≡ isTerm t
-unfolding isTerm isConstant isParameter isVariable isMinimum
-term-high {t} n = go (cmp t firstMinimum)
-  where
-    high : firstMinimum ≤ t → ltb t (firstMinimum + minimumCount) ≡ isTerm t
-    high q = rw (
-      le-ltb t constantCount (omega arith),
-      le-leb firstParameter t (omega arith),
-      le-ltb t (firstParameter + parameterCount) (omega arith),
-      le-leb firstVariable t n,
-      le-ltb t (firstVariable + variableCount) q,
-      le-leb firstMinimum t q,
-    )
-
-    go : Cmp t firstMinimum → ltb t (firstMinimum + minimumCount) ≡ isTerm t
-    go (below q) = rw (
-      lt-ltb t (firstMinimum + minimumCount) (omega arith),
-      le-ltb t constantCount (omega arith),
-      le-leb firstParameter t (omega arith),
-      le-ltb t (firstParameter + parameterCount) (omega arith),
-      le-leb firstVariable t n,
-      lt-ltb t (firstVariable + variableCount) q,
-    )
-    go (equal q) = high (omega arith)
-    go (above q) = high (omega arith)
 
 -- placed
 pub placed-used : (map : List ℕ) (n k t : ℕ) → k < n → getD map t 0 ≡ placed (mapOf map) n k t
@@ -174,18 +137,10 @@ renamed-is r e = e ∙ ap packed (r .atom)
 -- fits
 -- what `if !f(..)` tells of a call that answers x
 passed : {b x : Bool} → b ≡ x → not b ≡ false → x ≡ true
-passed {b} {x} e f = sym e ∙ go b f
-  where
-    go : (y : Bool) → not y ≡ false → y ≡ true
-    go true q = refl
-    go false q = sym q
+passed {b} {x} e f = sym e ∙ not-false b f
 
 failed : {b x : Bool} → b ≡ x → not b ≡ true → x ≡ false
-failed {b} {x} e f = sym e ∙ go b f
-  where
-    go : (y : Bool) → not y ≡ true → y ≡ false
-    go true q = sym q
-    go false q = refl
+failed {b} {x} e f = sym e ∙ not-true b f
 
 -- fewer
 pub fewer-few : {n : ℕ} → n < mostPlaces → n ≡ min n mostPlaces

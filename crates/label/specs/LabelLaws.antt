@@ -1,13 +1,14 @@
 -- Laws of atoms and labels: places by index, packing and unpacking are inverse.
 use mathlib.Core.Path.{_≡_, refl, sym, ap, subst, _∙_}
-use mathlib.Core.Bool.{true, _||_}
+use mathlib.Core.Bool.{true, false, _||_}
 use mathlib.Core.List.{List, [], _∷_}
 use Prim.Native.Nat.{ℕ, zero, suc, _+_, _-_, _*_, _/_, _%_, _^_, _≤_, _<_}
 use native.Mathlib.Omega.{arith}
 use lib.ListN.{length, getD}
 use lib.Dec.{eqb, ltb, leb}
-use borrow.Author.Tests.{ltb-true, eqb-true, lt-ltb, le-ltb, eq-eqb}
+use borrow.Author.Tests.{ltb-true, eqb-true, lt-ltb, le-ltb, le-leb, lt-leb, eq-eqb}
 use Rattle.basics.specs.Tests.{and-left, and-right, Flag, isTrue, isFalse, flag, Either, one, other, either, Cmp, cmp, below, equal, above}
+use Rattle.basics.specs.Members.{clash}
 use Rattle.label.specs.Limits.{constantCount, firstParameter, parameterCount, firstVariable, variableCount, firstMinimum, minimumCount, termBase, termEnd, mostPlaces, predicateCount}
 use Rattle.label.specs.Limits.{predicateWeight, weightAt, termBits, leafMark}
 use Rattle.label.specs.Terms.{isConstant, isParameter, isVariable, isMinimum, isTerm}
@@ -37,6 +38,52 @@ term-below t e = go (either (isConstant t) _ e)
     go : Either (isConstant t) (isParameter t || (isVariable t || isMinimum t)) → t < termEnd
     go (one q) = omega (arith, ltb-true t constantCount q)
     go (other q) = rest (either (isParameter t) _ q)
+
+-- no term stands between the parameters and the variables; from the variables on every number is one, up to the last
+pub term-gap : {t : ℕ} → firstParameter + parameterCount ≤ t → t < firstVariable → false ≡ isTerm t
+unfolding isTerm isConstant isParameter isVariable isMinimum
+term-gap {t} n h =
+    rw (
+      le-ltb t constantCount (omega arith),
+      le-leb firstParameter t (omega arith),
+      le-ltb t (firstParameter + parameterCount) n,
+      lt-leb firstVariable t h,
+      lt-leb firstMinimum t (omega arith),
+    )
+
+pub term-high : {t : ℕ} → firstVariable ≤ t → ltb t (firstMinimum + minimumCount) ≡ isTerm t
+unfolding isTerm isConstant isParameter isVariable isMinimum
+term-high {t} n = go (cmp t firstMinimum)
+  where
+    high : firstMinimum ≤ t → ltb t (firstMinimum + minimumCount) ≡ isTerm t
+    high q = rw (
+      le-ltb t constantCount (omega arith),
+      le-leb firstParameter t (omega arith),
+      le-ltb t (firstParameter + parameterCount) (omega arith),
+      le-leb firstVariable t n,
+      le-ltb t (firstVariable + variableCount) q,
+      le-leb firstMinimum t q,
+    )
+
+    go : Cmp t firstMinimum → ltb t (firstMinimum + minimumCount) ≡ isTerm t
+    go (below q) = rw (
+      lt-ltb t (firstMinimum + minimumCount) (omega arith),
+      le-ltb t constantCount (omega arith),
+      le-leb firstParameter t (omega arith),
+      le-ltb t (firstParameter + parameterCount) (omega arith),
+      le-leb firstVariable t n,
+      lt-ltb t (firstVariable + variableCount) q,
+    )
+    go (equal q) = high (omega arith)
+    go (above q) = high (omega arith)
+
+pub low-term : (t : ℕ) → isTerm t ≡ true → t < firstVariable → t < firstParameter + parameterCount
+low-term t e h = go (cmp t (firstParameter + parameterCount))
+  where
+    go : Cmp t (firstParameter + parameterCount) → t < firstParameter + parameterCount
+    go (below q) = q
+    go (equal q) = clash e (sym (term-gap (omega arith) h))
+    go (above q) = clash e (sym (term-gap (omega arith) h))
 
 pub place-below : (n k t : ℕ) → placeFits n k t ≡ true → t < termEnd
 unfolding placeFits

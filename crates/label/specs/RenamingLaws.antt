@@ -7,14 +7,14 @@ use Prim.Native.Nat.{ℕ, zero, suc, _+_, _-_, _≤_, _<_}
 use native.Mathlib.Omega.{arith}
 use lib.ListN.{length, getD, take}
 use lib.Dec.{eqb, ltb}
-use borrow.Author.Tests.{ltb-true, ltb-false, eqb-true, lt-ltb, le-ltb, le-leb, eq-eqb, ne-eqb}
+use borrow.Author.Tests.{ltb-true, ltb-false, eqb-true, lt-ltb, le-ltb, eq-eqb, ne-eqb}
 use Rattle.basics.specs.Tests.{Flag, isTrue, isFalse, flag, Cmp, below, equal, above, cmp}
 use Rattle.basics.specs.Members.{mem, clash}
-use Rattle.label.specs.Limits.{constantCount, firstParameter, parameterCount, firstVariable, variableCount, firstMinimum, minimumCount, termEnd, equalityArity, mostPlaces}
-use Rattle.label.specs.Terms.{isConstant, isParameter, isVariable, isMinimum, isTerm}
+use Rattle.label.specs.Limits.{firstParameter, parameterCount, firstVariable, firstMinimum, minimumCount, termEnd, equalityArity, mostPlaces}
+use Rattle.label.specs.Terms.{isTerm}
 use Rattle.label.specs.Labels.{areArities, placesOf, placeIn, packed, predicateOf, unpacked, placeFits, inOrder, isAtom, isLabel, termsOf, equalAtom, equates, testOf, labelOf}
 use Rattle.label.specs.Renamings.{placed, mapped, moved, renamed, rank, numbering, freeing, Increasing, EachTerm, EachIn}
-use Rattle.label.specs.LabelLaws.{each-place, atom-same, Fitting, PlacesFit, atom-fits, fits-atom, atom-places, label-fits, label-packed, unpacked-packed, unused-zero, used-term}
+use Rattle.label.specs.LabelLaws.{term-high, each-place, atom-same, Fitting, PlacesFit, atom-fits, fits-atom, atom-places, label-fits, label-packed, unpacked-packed, unused-zero, used-term}
 use Rattle.label.specs.ArityLaws.{arity-two}
 use Rattle.label.specs.Order.{termBefore, placesBefore, atomBefore, labelBefore}
 use Rattle.label.specs.OrderLaws.{Fits, places-fit, term-numbers, order-numbers}
@@ -260,30 +260,7 @@ module _ (us vs : List ℕ) (m n t : ℕ) where
   numbering-minimum h = rw (le-ltb t firstVariable (omega arith), le-ltb t firstMinimum h)
 
 variable-term : (t : ℕ) → firstVariable ≤ t → t < termEnd → isTerm t ≡ true
-unfolding isTerm isConstant isParameter isVariable isMinimum
-variable-term t h k = go (cmp t firstMinimum)
-  where
-    high : firstMinimum ≤ t → isTerm t ≡ true
-    high q = rw (
-      le-ltb t constantCount (omega arith),
-      le-leb firstParameter t (omega arith),
-      le-ltb t (firstParameter + parameterCount) (omega arith),
-      le-leb firstVariable t h,
-      le-ltb t (firstVariable + variableCount) q,
-      le-leb firstMinimum t q,
-      lt-ltb t (firstMinimum + minimumCount) k,
-    )
-
-    go : Cmp t firstMinimum → isTerm t ≡ true
-    go (below q) = rw (
-      le-ltb t constantCount (omega arith),
-      le-leb firstParameter t (omega arith),
-      le-ltb t (firstParameter + parameterCount) (omega arith),
-      le-leb firstVariable t h,
-      lt-ltb t (firstVariable + variableCount) q,
-    )
-    go (equal q) = high (omega arith)
-    go (above q) = high (omega arith)
+variable-term t h k = sym (term-high h) ∙ lt-ltb t (firstMinimum + minimumCount) (omega arith)
 
 -- the place of a term that is numbered
 data Numbers (us vs : List ℕ) (m n t : ℕ) : Type 0 where

@@ -60,9 +60,6 @@ in-either v a b h = go (bitAt a v) refl
 pub in-both : (v a b : ℕ) → In a v → In b v → In (bitAnd a b) v
 in-both v a b h i = let e = and-bit v a b in omega arith
 
-pub in-first : (v a b : ℕ) → In (bitAnd a b) v → In a v
-in-first v a b h = let e = and-bit v a b in let k = bit-small v a in omega arith
-
 pub in-second : (v a b : ℕ) → In (bitAnd a b) v → In b v
 in-second v a b h = let e = and-bit v a b in let k = bit-small v b in omega arith
 

@@ -1,18 +1,16 @@
 -- A path's literals behind the marks of its terms: they are in order, and the marks are those of its terms.
-use mathlib.Core.Path.{_≡_, refl, sym, ap, ap₂, subst, _∙_}
+use mathlib.Core.Path.{_≡_, refl, sym, ap, subst, _∙_}
 use mathlib.Core.Bool.{Bool, true, false}
 use mathlib.Core.List.{List, [], _∷_, map, List·Memᴰ, List·Memᴰ·head, List·Memᴰ·tail}
-use Prim.Native.Nat.{ℕ, zero, suc, pred, _+_, _-_, _*_, _/_, _%_, _≤_, _<_}
+use Prim.Native.Nat.{ℕ, zero, suc, pred, _+_, _-_, _*_, _/_, _≤_, _<_}
 use native.Mathlib.Omega.{arith}
 use lib.ListN.{length, getD, take, drop, length-take, length-drop}
 use lib.Seq.{getD-take, getD-drop}
-use lib.Dec.{eqb}
 use Rattle.basics.specs.Tests.{Cmp, cmp, below, equal, above}
 use Rattle.label.specs.Limits.{firstMinimum}
 use Rattle.label.specs.Labels.{unpacked, termsOf}
 use Rattle.diagram.specs.Diagram.{Diagram, leaf, branch, From}
 use Rattle.diagram.specs.Words.{labelAt, rowCount, isListing}
-use Rattle.diagram.specs.Listing.{diagramOf}
 use Rattle.diagram.specs.Variables.{isPlain}
 use Rattle.diagram.specs.Validity.{Valid, tree}
 use Rattle.diagram.specs.ListingValid.{listing-is-valid}
@@ -22,6 +20,7 @@ use Rattle.paths.specs.Paths.{Literal, Path, paths, literals, termsIn}
 use Rattle.cutting.specs.MatchLaws.{in-terms}
 use Rattle.cutting.specs.Searchable.{PathLabels}
 use Rattle.cutting.specs.CoverLaws.{path-labels, path-plain}
+use Rattle.paths.specs.CodeLaws.{half, literals-codes}
 use Rattle.paths.specs.PathLaws.{range-terms, paths-branch}
 use Rattle.paths.specs.Routes.{bit, codeOf, codes, stepOn, pathAt, At, Entered, InRange}
 use Rattle.matcher.specs.Search.{literalAt, literalsIn}
@@ -30,25 +29,8 @@ use Rattle.paths.specs.PathLaws.{path-in, path-high, path-low, codes-step}
 use Rattle.matcher.proofs.CoversLaws.{of-terms}
 
 -- ===== Literals and their numbers =====
-half : (l : ℕ) (b : Bool) → (l * 2 + bit b) / 2 ≡ l
-half l true = omega arith
-half l false = omega arith
-
-odd : (l : ℕ) (b : Bool) → eqb ((l * 2 + bit b) % 2) 1 ≡ b
-odd l true = let e : (l * 2 + 1) % 2 ≡ 1 = omega arith in ap (λ (x : ℕ). eqb x 1) e
-odd l false = let e : (l * 2 + 0) % 2 ≡ 0 = omega arith in ap (λ (x : ℕ). eqb x 1) e
-
--- the number of a literal stands for it
-literal-code : (l : Literal) → literalAt (codeOf l) ≡ l
-unfolding literalAt codeOf
-literal-code l = λ i. record { label = half (l .label) (l .sign) i; sign = odd (l .label) (l .sign) i }
-
-literals-codes : (ls : List Literal) → map literalAt (map codeOf ls) ≡ ls
-literals-codes [] = refl
-literals-codes (l ∷ ls) = ap₂ _∷_ (literal-code l) (literals-codes ls)
-
 pub codes-are : (p : Path) → literalsIn (codes p) ≡ literals p
-unfolding literalsIn codes
+unfolding literalsIn literalAt codes
 codes-are p = literals-codes (literals p)
 
 -- ===== The numbers along a path ascend =====

@@ -1,7 +1,7 @@
 -- The search part by part (document 01, section 'Cut'): literals that share no variable are searched by themselves, and within a part those with
 -- the fewest new variables come first.
 use mathlib.Core.Path.{_≡_}
-use mathlib.Core.Bool.{Bool, true, false, _&&_, _||_}
+use mathlib.Core.Bool.{Bool, true, false, _&&_}
 use mathlib.Core.List.{List}
 use Prim.Native.Nat.{ℕ, _+_, _*_, _/_, _%_, _≤_, _<_}
 use lib.ListN.{length, getD, drop}

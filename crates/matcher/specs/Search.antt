@@ -7,12 +7,12 @@ use mathlib.Core.Option.{some, none}
 use Prim.Native.Nat.{ℕ, zero, suc, _+_, _-_, _*_, _/_, _%_, _≤_, _<_}
 use lib.ListN.{length, getD, set, take, drop}
 use lib.Dec.{eqb, ltb, leb}
-use Rattle.label.specs.Limits.{firstVariable, firstMinimum, termBase, predicateCount, mostPlaces, equality, equalityArity}
+use Rattle.label.specs.Limits.{firstVariable, firstMinimum, termBase, mostPlaces, equality, equalityArity}
 use Rattle.label.specs.Labels.{predicateOf, placeAt, equates}
 use Rattle.label.specs.declared.Test.the-variants.{Always, Is}
 use Rattle.paths.specs.Paths.{mostPaths, Literal, termsIn}
 use Rattle.paths.specs.Routes.{InRange}
-use Rattle.cutting.specs.Match.{Partial, bindTerms, matches}
+use Rattle.cutting.specs.Match.{Partial, bindTerms}
 use Rattle.cutting.specs.Searchable.{AllLabels, Searchable}
 use Rattle.matcher.specs.declared.Way.{Way}
 use Rattle.matcher.specs.declared.Way.the-variants.{Straight, Turned, Twice, Nothing}

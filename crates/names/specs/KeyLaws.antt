@@ -1,5 +1,5 @@
 -- Laws of keys in a table: the search by places, one key more, tables whose words stay.
-use mathlib.Core.Bool.{Bool, true, false, cond}
+use mathlib.Core.Bool.{Bool, true, false}
 use mathlib.Core.Path.{_≡_, refl, sym, subst, _∙_}
 use mathlib.Core.List.{List, [], _∷_, _++_}
 use Prim.Native.Nat.{ℕ, zero, suc, _+_, _*_, _<_, _≤_, suc-le-suc}
@@ -68,15 +68,6 @@ module _ (s : List ℕ) (base n : ℕ) (k : Key) where
       (λ j l p. let m : j < n = (rw length-many at l) in f j m (sym (getD-many (keyAt s base) k n j m) ∙ p))
       ∙ length-many (keyAt s base) n
 
-pub place-le : (k : Key) (xs : List Key) → placeOf k xs ≤ length xs
-unfolding placeOf
-place-le k [] = omega arith
-place-le k (x ∷ xs) = go (sameKey x k) (place-le k xs)
-  where
-    go : (b : Bool) → placeOf k xs ≤ length xs → cond b 0 (suc (placeOf k xs)) ≤ suc (length xs)
-    go true h = omega arith
-    go false h = omega arith
-
 pub length-keys : (s : List ℕ) (base n : ℕ) → length (keysAt s base n) ≡ n
 unfolding keysAt
 length-keys s base n = length-many (keyAt s base) n
@@ -91,9 +82,6 @@ module _ (s : List ℕ) (base n : ℕ) (k : Key) {i : ℕ} (p : i ≡ placeOf k 
   pub among-none : n ≤ i → isAmong k (keysAt s base n) ≡ false
   unfolding isAmong
   among-none h = le-ltb (placeOf k (keysAt s base n)) (length (keysAt s base n)) (omega (arith, length-keys s base n))
-
-  pub place-room : i ≤ n
-  place-room = omega (arith, place-le k (keysAt s base n), length-keys s base n)
 
 -- the words from base on, size of them, are the same in s and in t
 pub record Same (s t : List ℕ) (base size : ℕ) : Type 0 where

@@ -5,11 +5,7 @@ use Prim.Native.Nat.{ℕ}
 abbrev pub constantsAt : ℕ
 constantsAt = 0
 
--- the predicates' keys by number, 32 at most; equality is number 0 and has none
-abbrev pub predicatesAt : ℕ
-predicatesAt = 32
-
--- the first declared predicate has number 1
+-- the declared predicates' keys, 31 at most: the predicates' begin at 32, by number; equality is number 0 and has none
 abbrev pub declaredAt : ℕ
 declaredAt = 34
 

@@ -1,7 +1,7 @@
 // Tables of names: keys of two words each, one behind another in words that the caller lends.
 use words::Key;
 ghost use mathlib.Core.Path.{_≡_};
-ghost use Prim.Native.Nat.{ℕ, _+_, _*_, _≤_};
+ghost use Prim.Native.Nat.{_+_, _*_, _≤_};
 ghost use lib.ListN.{length};
 ghost use Rattle.names.specs.Keys.{sameKey, keyAt, keysAt, placeOf, putKey};
 

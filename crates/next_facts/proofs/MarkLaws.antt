@@ -61,9 +61,6 @@ module _ {ar facts ws env marks : List ℕ} {i : ℕ} (q : Reaching ar ws env ma
       below = λ j l. place-end ar (getD ws (i * 3) 0) j (row .label) l;
     }
 
-    unfoldable leafBy : Bool → Bool → ℕ
-    leafBy b f = pickLeaf b f (getD marks (getD ws (i * 3 + 1) 0) 0) (getD marks (getD ws (i * 3 + 2) 0) 0)
-
     row-leaf : reachIn ar facts env (tree ws i)
         ≡ pickLeaf (mayHold facts env (getD ws (i * 3) 0) (getD ar (predicateOf (getD ws (i * 3) 0)) 0)) (mayFail facts env (getD ws (i * 3) 0) (getD ar (predicateOf (getD ws (i * 3) 0)) 0))
         (getD marks (getD ws (i * 3 + 1) 0) 0) (getD marks (getD ws (i * 3 + 2) 0) 0)

@@ -80,9 +80,6 @@ module _ (ar : List ℕ) (good : areArities ar ≡ true) (p : ℕ) (some : 0 < p
       })
 
   -- ===== Its diagram =====
-  abbrev own : Diagram
-  own = branch (ownLabel p (getD ar p 0)) (leaf 1) (leaf 0)
-
   own-rows : rows (branch (ownLabel p (getD ar p 0)) (leaf 1) (leaf 0)) ≡ leaf 1 ∷ leaf 0 ∷ branch (ownLabel p (getD ar p 0)) (leaf 1) (leaf 0) ∷ []
   unfolding rows onto same
   own-rows = refl

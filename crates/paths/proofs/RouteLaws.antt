@@ -1,6 +1,6 @@
 -- Counts of paths, and walking a path by its number.
 use mathlib.Core.Path.{_≡_, refl, sym, ap, ap₂, subst, _∙_}
-use mathlib.Core.Bool.{Bool, true, false, _&&_, _||_, Bool·beq}
+use mathlib.Core.Bool.{Bool, true, false, _&&_, _||_, or-false, Bool·beq}
 use mathlib.Core.List.{List, [], _∷_, _++_, append-assoc, append-nil}
 use Prim.Native.Nat.{ℕ, zero, suc, _+_, _-_, _*_, _≤_, _<_, min}
 use native.Mathlib.Omega.{arith}
@@ -245,10 +245,6 @@ module _ {ws : List ℕ} {n : ℕ} (w : Rows ws n) where
       ap (through (tree ws x) y) e
       ∙ stepped (ap (λ (j : ℕ). same (tree ws x) (tree ws j)) z ∙ same-refl (tree ws x)) (before x (suc row) h row rest (omega arith) l y)
     where
-      or-false : (c : Bool) → (c || false) ≡ c
-      or-false true = refl
-      or-false false = refl
-
       stepped : same (tree ws x) (tree ws i) ≡ true → through (tree ws x) y (pathAt (tree ws row) rest) ≡ false
           → through (tree ws x) y (stepBefore (record { from = tree ws i; label = labelAt ws i; side = b }) (pathAt (tree ws row) rest)) ≡ Bool·beq y b
       stepped o p = split ∙ ap₂ (λ (c d : Bool). (c && Bool·beq y b) || d) o p ∙ or-false (Bool·beq y b)

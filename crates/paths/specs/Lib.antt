@@ -8,7 +8,7 @@
 --   isEdge, someStep, through == the path goes through the edge of the row r on the side b
 --
 -- For proofs
---   pathAt, codes == path k of a diagram; its literals as numbers
+--   stepOn, pathAt, codes == an edge of a branch; path k of a diagram; its literals as numbers
 --
 -- Theorems
 --   paths-are: the paths are those of the numbers 0, 1, ..
@@ -22,3 +22,4 @@ pub mod Routes
 pub mod Walking
 -- laws
 pub mod PathLaws
+pub mod CodeLaws

@@ -12,9 +12,10 @@ use Rattle.basics.specs.Members.{mem, clash}
 use Rattle.label.specs.Limits.{leafMark}
 use Rattle.table.specs.Chains.{prev}
 use Rattle.table.specs.ChainLaws.{prev-le, prev-gap, prev-hits}
+use Rattle.diagram.specs.Sizes.{spaceRows}
 use Rattle.diagram.specs.Words.{highAt}
 use Rattle.apply.specs.declared.Operation.{Operation}
-use Rattle.plan.specs.Walk.{Pair, samePair, isEnd, pairLabel, onHigh, onLow, walked, mostRows, Leading}
+use Rattle.plan.specs.Walk.{Pair, samePair, isEnd, pairLabel, onHigh, onLow, walked, Leading}
 use Rattle.plan.specs.WalkLaws.{mem-at, mem-nowhere, place-one, end-label, branch-label, high-below, low-below, high-leading, low-leading, extends-length, extends-getD}
 use Rattle.plan.specs.WalkLaws.{walked-old, walked-end, walked-branch, walked-extends, walked-fresh, walked-root}
 use Rattle.plan.specs.Plan.{keyCount, keyOf, pairOf, hashOf, keyAt, putEntry, Index, origin, Entry, Plan, Touched, wentTo, packBase, Ready, Planned, pairsAt, Reached, Overrun, Visited, Entered}
@@ -37,7 +38,7 @@ module _ {op : Operation} {x y ws heads : List ℕ} {limit : ℕ} {p : Pair} {ps
   visited-full o = record { to = λ a b q. absurd (let z : _≡_ {A = ℕ} 0 1 = cc in omega arith); full = λ q. o }
 
 -- the plan with the entry that `add` wrote, or none
-module _ (op : Operation) (x y ws heads : List ℕ) (limit : ℕ) (ps : List Pair) (t : Plan op x y ws heads limit ps) (p : Pair) (few-x : p .0 < mostRows) (few-y : p .1 < mostRows)
+module _ (op : Operation) (x y ws heads : List ℕ) (limit : ℕ) (ps : List Pair) (t : Plan op x y ws heads limit ps) (p : Pair) (few-x : p .0 < spaceRows) (few-y : p .1 < spaceRows)
     (new : mem samePair p ps ≡ false) (label first second : ℕ) (label-is : label ≡ pairLabel op x y p)
     (end-is : isEnd op x y p ≡ true → (first ≡ highAt x (p .0)) × (second ≡ highAt y (p .1)))
     (branch-is : isEnd op x y p ≡ false → (first < length ps) × (second < length ps) × (getD ps first origin ≡ onHigh x y p) × (getD ps second origin ≡ onLow x y p)) where
@@ -79,7 +80,7 @@ module _ (op : Operation) (x y ws heads : List ℕ) (limit : ℕ) (ps : List Pai
       (subst (λ (m : ℕ). Entered ws heads limit n m label first second z ws′ heads′) d e))
 
 -- the pair of a key
-at-key : {k : ℕ} (p : Pair) → p .1 < mostRows → k ≡ keyOf p → pairOf k ≡ p
+at-key : {k : ℕ} (p : Pair) → p .1 < spaceRows → k ≡ keyOf p → pairOf k ≡ p
 at-key p h e = ap (λ (z : ℕ). pairOf z) e ∙ pair-of-key p h
 
 pub ready-key : {op : Operation} {x y ws heads : List ℕ} {limit count k : ℕ} → Ready op x y ws heads limit count (pairOf k) → (k ≡ keyOf (pairOf k)) × (k < keyCount)
@@ -87,7 +88,7 @@ unfolding keyOf
 ready-key {k = k} r = (omega arith, omega (arith, r .leading .first .few))
 
 module _ {op : Operation} {x y ws heads : List ℕ} {limit count i j : ℕ} (r : Ready op x y ws heads limit count (i, j)) where
-  pub ready-few : (i < mostRows) × (j < mostRows)
+  pub ready-few : (i < spaceRows) × (j < spaceRows)
   ready-few = (r .leading .first .few, r .leading .second .few)
 
   pub ready-index : Index ws heads limit count
@@ -167,10 +168,10 @@ module _ {op : Operation} {x y ws heads : List ℕ} {limit count i j : ℕ} (r :
       lead-low : Leading x y (li, lj)
       lead-low = subst (Leading x y) (sym (s .1)) (low-leading op x y (i, j) (r .leading) (is-branch branch))
 
-      pub high-few : (hi < mostRows) × (hj < mostRows)
+      pub high-few : (hi < spaceRows) × (hj < spaceRows)
       high-few = (lead-high .first .few, lead-high .second .few)
 
-      pub low-few : (li < mostRows) × (lj < mostRows)
+      pub low-few : (li < spaceRows) × (lj < spaceRows)
       low-few = (lead-low .first .few, lead-low .second .few)
 
       -- its successors by their keys
@@ -194,10 +195,10 @@ module _ {op : Operation} {x y ws heads : List ℕ} {limit count i j : ℕ} (r :
         after-length : length (walked op x y (i, j) (pairsAt ws count)) ≡ length vs + 1
         after-length = ap length after ∙ length-append vs ((i, j) ∷ [])
 
-        pub high-less : h / mostRows + h % mostRows < i + j
+        pub high-less : h / spaceRows + h % spaceRows < i + j
         high-less = subst (λ (q : Pair). q .0 + q .1 < i + j) (sym high-is) (high-below op x y (i, j) (r .leading) (is-branch branch) .less)
 
-        pub low-less : o / mostRows + o % mostRows < i + j
+        pub low-less : o / spaceRows + o % spaceRows < i + j
         low-less = subst (λ (q : Pair). q .0 + q .1 < i + j) (sym low-is) (low-below op x y (i, j) (r .leading) (is-branch branch) .less)
 
         pub high-ready : Ready op x y ws heads limit count (pairOf h)
@@ -264,7 +265,7 @@ module _ {op : Operation} {x y ws heads : List ℕ} {limit count i j : ℕ} (r :
                     (low-reached .count-is) (key .0) a)
 
 -- the ways through `walk`
-pub walk-few : {x y : List ℕ} {i j : ℕ} → Leading x y (i, j) → (i < mostRows) × (j < mostRows)
+pub walk-few : {x y : List ℕ} {i j : ℕ} → Leading x y (i, j) → (i < spaceRows) × (j < spaceRows)
 walk-few a = (a .first .few, a .second .few)
 
 pub walk-ready : {op : Operation} {x y ws heads : List ℕ} {limit i j k : ℕ} → Leading x y (i, j) → Index ws heads limit 0 → (k ≡ keyOf (i, j)) × (k < keyCount)

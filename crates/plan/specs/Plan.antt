@@ -7,29 +7,27 @@ use lib.ListN.{length, getD, set}
 use lib.Dec.{leb, eqb}
 use Rattle.basics.specs.Members.{NoDup}
 use Rattle.table.specs.Chains.{prev}
+use Rattle.table.specs.Table.{mostIndexed}
+use Rattle.diagram.specs.Sizes.{spaceRows}
 use Rattle.diagram.specs.Words.{highAt}
 use Rattle.apply.specs.declared.Operation.{Operation}
 use Rattle.plan.specs.declared.Went.{Went}
 use Rattle.plan.specs.declared.Went.the-variants.{To, Full}
-use Rattle.plan.specs.Walk.{Pair, samePair, isEnd, pairLabel, onHigh, onLow, mostRows, Leading}
+use Rattle.plan.specs.Walk.{Pair, samePair, isEnd, pairLabel, onHigh, onLow, Leading}
 
 -- the number of buckets of the index
 abbrev pub buckets : ℕ
 buckets = 4096
 
--- the most pairs that can be indexed: an entry of the index is one more than a place, in 16 bits
-abbrev pub mostPairs : ℕ
-mostPairs = 65535
-
 -- a pair as one number, and back
 abbrev pub keyCount : ℕ
-keyCount = mostRows * mostRows
+keyCount = spaceRows * spaceRows
 
 unfoldable pub keyOf : Pair → ℕ
-keyOf p = p .0 * mostRows + p .1
+keyOf p = p .0 * spaceRows + p .1
 
 abbrev pub pairOf : ℕ → Pair
-pairOf k = (k / mostRows, k % mostRows)
+pairOf k = (k / spaceRows, k % spaceRows)
 
 -- the bucket of a key
 unfoldable pub hashOf : ℕ → ℕ
@@ -64,7 +62,7 @@ putEntry ws k key link label first second =
 pub record Index (ws heads : List ℕ) (limit count : ℕ) : Type 0 where
   pub words : limit * 5 ≤ length ws
   pub slots : buckets ≤ length heads
-  pub small : limit ≤ mostPairs
+  pub small : limit ≤ mostIndexed
   pub within : count ≤ limit
   pub keys : (k : ℕ) → k < count → keyAt ws k < keyCount
   pub head : (b : ℕ) → b < buckets → getD heads b 0 ≡ prev (hashAt ws) b count
@@ -88,8 +86,8 @@ pub record End (x y ws : List ℕ) (k : ℕ) (p : Pair) : Type 0 where
 
 -- entry k is that of the pair p
 pub record Entry (op : Operation) (x y ws : List ℕ) (ps : List Pair) (k : ℕ) (p : Pair) : Type 0 where
-  pub few-x : p .0 < mostRows
-  pub few-y : p .1 < mostRows
+  pub few-x : p .0 < spaceRows
+  pub few-y : p .1 < spaceRows
   pub key : keyAt ws k ≡ keyOf p
   pub label : pairLabelAt ws k ≡ pairLabel op x y p
   pub end : isEnd op x y p ≡ true → End x y ws k p

@@ -10,25 +10,27 @@ use native.Mathlib.Omega.{arith}
 use lib.ListN.{length, getD, set, length-append, length-set, List·getD-append}
 use lib.Seq.{getD-at, getD-set-same, getD-set-other, ext-getD}
 use Rattle.basics.specs.Members.{mem}
+use Rattle.diagram.specs.Sizes.{spaceRows}
 use Rattle.diagram.specs.Words.{highAt}
 use Rattle.table.specs.Chains.{prev}
+use Rattle.table.specs.Table.{mostIndexed}
 use Rattle.table.specs.ChainLaws.{test, prev-zero, prev-same, prev-other, prev-none, prev-ext}
 use Rattle.apply.specs.declared.Operation.{Operation}
-use Rattle.plan.specs.Walk.{Pair, samePair, isEnd, pairLabel, onHigh, onLow, mostRows}
+use Rattle.plan.specs.Walk.{Pair, samePair, isEnd, pairLabel, onHigh, onLow}
 use Rattle.plan.specs.WalkLaws.{pair-ext, nodup-more}
-use Rattle.plan.specs.Plan.{buckets, mostPairs, keyCount, keyOf, pairOf, hashOf, keyAt, linkAt, pairLabelAt, firstAt, secondAt, hashAt, putEntry, Index, origin, Entry, Plan}
+use Rattle.plan.specs.Plan.{buckets, keyCount, keyOf, pairOf, hashOf, keyAt, linkAt, pairLabelAt, firstAt, secondAt, hashAt, putEntry, Index, origin, Entry, Plan}
 use Rattle.plan.specs.Plan.{Clean, Touched, pairsAt}
 
 -- keys
-pub key-less : (p : Pair) → p .0 < mostRows → p .1 < mostRows → keyOf p < keyCount
+pub key-less : (p : Pair) → p .0 < spaceRows → p .1 < spaceRows → keyOf p < keyCount
 unfolding keyOf
 key-less p a b = omega arith
 
-pub pair-of-key : (p : Pair) → p .1 < mostRows → pairOf (keyOf p) ≡ p
+pub pair-of-key : (p : Pair) → p .1 < spaceRows → pairOf (keyOf p) ≡ p
 unfolding keyOf
 pair-of-key p b = pair-ext _ p (omega arith) (omega arith)
 
-pub key-one : (p q : Pair) → p .1 < mostRows → q .1 < mostRows → keyOf p ≡ keyOf q → p ≡ q
+pub key-one : (p q : Pair) → p .1 < spaceRows → q .1 < spaceRows → keyOf p ≡ keyOf q → p ≡ q
 unfolding keyOf
 key-one p q a b e = pair-ext p q (omega arith) (omega arith)
 
@@ -222,7 +224,7 @@ module _ (ws heads : List ℕ) (limit n : ℕ) (t : Index ws heads limit n) (roo
   index-added = index-more
 
 -- the plan with the entry of a pair more
-module _ (op : Operation) (x y ws heads : List ℕ) (limit : ℕ) (ps : List Pair) (t : Plan op x y ws heads limit ps) (p : Pair) (few-x : p .0 < mostRows) (few-y : p .1 < mostRows)
+module _ (op : Operation) (x y ws heads : List ℕ) (limit : ℕ) (ps : List Pair) (t : Plan op x y ws heads limit ps) (p : Pair) (few-x : p .0 < spaceRows) (few-y : p .1 < spaceRows)
     (new : mem samePair p ps ≡ false) (room : length ps < limit) (label first second : ℕ) where
   more : List ℕ
   more = putEntry ws (length ps) (keyOf p) (getD heads (hashOf (keyOf p)) 0) label first second
@@ -311,7 +313,7 @@ module _ (op : Operation) (x y ws heads : List ℕ) (limit : ℕ) (ps : List Pai
     }
 
 -- an index of no entries; any words
-pub index-empty : (ws heads : List ℕ) (limit : ℕ) → limit * 5 ≤ length ws → limit ≤ mostPairs → Clean heads → Index ws heads limit 0
+pub index-empty : (ws heads : List ℕ) (limit : ℕ) → limit * 5 ≤ length ws → limit ≤ mostIndexed → Clean heads → Index ws heads limit 0
 index-empty ws heads limit h g c = record {
   words = h;
   slots = c .slots;

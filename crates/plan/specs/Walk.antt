@@ -7,6 +7,7 @@ use lib.ListN.{length}
 use lib.Dec.{eqb, leb}
 use Rattle.basics.specs.Members.{mem}
 use Rattle.label.specs.Limits.{leafMark}
+use Rattle.diagram.specs.Sizes.{spaceRows}
 use Rattle.diagram.specs.Words.{labelAt, highAt, lowAt}
 use Rattle.apply.specs.declared.Operation.{Operation}
 use Rattle.apply.specs.Pairs.{absorbs}
@@ -57,14 +58,10 @@ finishPairs op x y (suc depth) p done = elim (mem samePair p done) [
 unfoldable pub walked : Operation → List ℕ → List ℕ → Pair → List Pair → List Pair
 walked op x y p done = finishPairs op x y (suc (p .0 + p .1)) p done
 
--- rows on either side at most: those of a working space
-abbrev pub mostRows : ℕ
-mostRows = 2048
-
 -- the rows of x up to row i are there and lead down: a branch's children are earlier rows, and no label is above a leaf's mark
 pub record Leads (x : List ℕ) (i : ℕ) : Type 0 where
   pub room : i * 3 + 3 ≤ length x
-  pub few : i < mostRows
+  pub few : i < spaceRows
   pub most : (k : ℕ) → k ≤ i → labelAt x k ≤ leafMark
   pub high : (k : ℕ) → k ≤ i → (labelAt x k ≡ leafMark → ⊥) → highAt x k < k
   pub low : (k : ℕ) → k ≤ i → (labelAt x k ≡ leafMark → ⊥) → lowAt x k < k

@@ -8,9 +8,10 @@ ghost use Prim.Native.Nat.{_+_, _*_, _<_, _≤_};
 ghost use lib.ListN.{length};
 ghost use Rattle.basics.specs.Members.{mem};
 ghost use Rattle.table.specs.Chains.{prev};
+ghost use Rattle.diagram.specs.Sizes.{spaceRows};
 ghost use Rattle.apply.specs.Pairs.{absorbs};
-ghost use Rattle.plan.specs.Walk.{samePair, isEnd, lesser, pairLabel, onHigh, onLow, walked, mostRows, Leading};
-ghost use Rattle.plan.specs.Plan.{buckets, keyCount, keyOf, pairOf, hashOf, keyAt, Index, Plan, Clean, Touched, Ready, Planned, packBase, wentOf, pairsAt, Visited, Entered};
+ghost use Rattle.plan.specs.Walk.{samePair, isEnd, lesser, pairLabel, onHigh, onLow, walked, Leading};
+ghost use Rattle.plan.specs.Plan.{buckets, keyCount, keyOf, pairOf, hashOf, keyAt, Index, Clean, Touched, Ready, Planned, packBase, wentOf, pairsAt, Visited, Entered};
 ghost use Rattle.plan.specs.declared.Went.the-variants.{To};
 
 // The number of buckets of the index.
@@ -40,7 +41,7 @@ pub struct Ways {
 
 // The key of a pair.
 fn key(i: usize, j: usize) -> u64
-    requires { ⌜ (i < mostRows) × (j < mostRows) ⌝ }
+    requires { ⌜ (i < spaceRows) × (j < spaceRows) ⌝ }
     ensures { λ r. ⌜ (r ≡ keyOf (i, j)) × (r < keyCount) ⌝ }
 {
     (i * diagram::SPACE_ROWS + j) as u64

@@ -40,7 +40,7 @@ use Rattle.model.specs.declared.Head.{Head}
 use Rattle.model.specs.Layout.{rewardWords, modelOf, Laid}
 use Rattle.steps.specs.declared.Step.the-variants.{Rows}
 use Rattle.planner.specs.declared.Backed.{Backed}
-use Rattle.planner.specs.declared.Backed.the-variants.{Done, Refused as NotBacked}
+use Rattle.planner.specs.declared.Backed.the-variants.{Done}
 use Rattle.planner.specs.declared.Held.{Held}
 use Rattle.steps.specs.Steps.{stepAs, Result, Wrote}
 use Rattle.planner.specs.Backed.{Powered, backedAs, BackedUp}
@@ -72,10 +72,6 @@ module _ {ar : List ℕ} {m : Model} {h : Held} {value : List ℕ} (c : Callable
       → ((d : Diagram) → o ≡ ok d → length (rows d) ≡ n → scale m ^ suc (h .steps) ≡ p → A) → A
   backed (ok d) n p e f = f d refl (cc) (cc)
   backed (refused x) n p e f = let z : _≡_ {A = ℕ} 0 1 = cc in absurd (omega arith)
-
-  stopped : (o : Outcome Diagram) (x : Refusal) → backedAs (scale m ^ suc (h .steps)) o ≡ NotBacked x → o ≡ refused x
-  stopped (ok d) x e = let z : _≡_ {A = ℕ} 0 1 = cc in absurd (omega arith)
-  stopped (refused y) x e = ap refused (cc)
 
   pub backup-holds : {n p : ℕ} → r ≡ Done n p → Holds ar m (call m aBackup (heldIn h value)) (record { rows = n; steps = h .steps + 1; power = p }) value′
   backup-holds {n} {p} e = backed (backup m (h .steps) D) n p (sym (b .answer) ∙ e) (λ d q l s.

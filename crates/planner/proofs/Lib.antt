@@ -1,4 +1,5 @@
 -- Laws of the code.
+pub mod FollowLaws
 pub mod FreeLaws
 pub mod HeldLaws
 pub mod PowerLaws

@@ -23,7 +23,7 @@ use Rattle.model.specs.declared.Head.{Head}
 use Rattle.model.specs.Layout.{actionWords, variantPlace, variantAt, variantsOf, actionAt, modelOf, Laid}
 use Rattle.steps.specs.declared.Step.{Step}
 use Rattle.steps.specs.declared.Step.the-variants.{Rows, Refused}
-use Rattle.steps.specs.Steps.{Given, Begun, Begins, Folding}
+use Rattle.steps.specs.Steps.{Given, Begun, Begins}
 use Rattle.planner.specs.Parts.{variantAdded, freedUp, actionValue, actionTried}
 use Rattle.planner.specs.PartLaws.{sum-more, best-more, sum-fits}
 use Rattle.planner.specs.Tasks.{VariantTask, ValueTask, ActionTask, FreeUp}
@@ -146,33 +146,11 @@ module _ {ar listings table : List ℕ} {a : ℕ} (t : ActionTask ar listings ta
           ap (λ (c : ℕ). freedUp ar c (diagramOf (take (n * 3) sum))) (sym count-is)
           ∙ sym (done-then (λ q. freedUp ar (actionAt listings table a .count) q) (x .result n h) action-is)) w
 
-  -- ===== Tried =====
+-- ===== Tried =====
 
-  module _ {n : ℕ} (s : Begins ar n out₀) where
-    abbrev B : Diagram
-    B = diagramOf (take (n * 3) out₀)
-
-    tried-is : actionTried ar g (diagramOf value) B (actionAt listings table a) ≡ andThen A (λ q. combined Max Shared ar B q)
-    unfolding actionTried
-    tried-is = refl
-
-    module _ {r : Step} {gain : List ℕ} (x : Given ar A r gain) where
-      pub tried-stops : {e : Refusal} → r ≡ Refused e → {out′ : List ℕ} → Given ar (actionTried ar g (diagramOf value) B (actionAt listings table a)) r out′
-      tried-stops h = refused-then (λ q. combined Max Shared ar B q) x h tried-is
-
-      module _ {m : ℕ} (h : r ≡ Rows m) where
-        pub tried-folding : {work′ : List ℕ} → length work′ ≡ length work₀ → Folding ar out₀ n (take (m * 3) gain) work′
-        tried-folding e = record {
-          first = s .listing;
-          second = x .result m h .listing;
-          inside = s .room;
-          buffer-room = u .out-room;
-          work-room = omega (arith, e, u .work-room);
-        }
-
-        pub tried-given : {q : Step} {out′ : List ℕ} → Given ar (combined Max Shared ar B (diagramOf (take (m * 3) gain))) q out′
-            → Given ar (actionTried ar g (diagramOf value) B (actionAt listings table a)) q out′
-        tried-given w = given-same (sym (done-then (λ q. combined Max Shared ar B q) (x .result m h) tried-is)) w
+pub tried-is : (ar : List ℕ) (g : ℕ) (d best : Diagram) (a : Action) → actionTried ar g d best a ≡ andThen (actionValue ar g d a) (λ q. combined Max Shared ar best q)
+unfolding actionTried
+tried-is ar g d best a = refl
 
 -- ===== The best over the actions =====
 

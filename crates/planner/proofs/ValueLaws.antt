@@ -21,7 +21,8 @@ use Rattle.steps.specs.declared.Step.{Step}
 use Rattle.steps.specs.declared.Step.the-variants.{Rows, Refused}
 use Rattle.steps.specs.Steps.{stepAs, Given, Wrote, Operands}
 use Rattle.planner.specs.Tasks.{ValueTask, RewardTask, Standing}
-use Rattle.steps.specs.GivenLaws.{step-refused, done-then}
+use Rattle.steps.specs.GivenLaws.{step-refused}
+use Rattle.planner.proofs.FollowLaws.{first-done, both-done, both-operands}
 
 pub wrote-refused : {ar : List ℕ} {o : Outcome Diagram} {e : Refusal} {out : List ℕ} → o ≡ refused e → Wrote ar o (Refused e) out out
 wrote-refused {ar} {o} {e} {out} h = record {
@@ -82,19 +83,11 @@ module _ {ar listings table : List ℕ} {h : Head} (t : Laid ar listings table h
 
     module _ {n : ℕ} (k : a ≡ Rows n) {b : Step} {reward : List ℕ} (y : Given ar R b reward) where
       pub calls-stop-2 : {e : Refusal} → b ≡ Refused e → {out : List ℕ} → Wrote ar C b out out
-      calls-stop-2 l = wrote-then (λ r. combined Sum Apart ar (diagramOf (take (n * 3) best)) r) y l
-          (done-then (λ best. andThen R (λ r. combined Sum Apart ar best r)) (x .result n k) calls-are)
+      calls-stop-2 l = wrote-then (λ r. combined Sum Apart ar (diagramOf (take (n * 3) best)) r) y l (first-done Sum Apart R calls-are x k)
 
       module _ {m : ℕ} (l : b ≡ Rows m) where
         pub calls-operands : {work′ : List ℕ} → length work′ ≡ length work → Operands ar (take (n * 3) best) (take (m * 3) reward) value work′
-        calls-operands e = record {
-          first = x .result n k .listing;
-          second = y .result m l .listing;
-          out-room = u .value-room;
-          work-room = omega (arith, e, u .work-room);
-        }
+        calls-operands = both-operands Sum Apart R calls-are x k y l (u .value-room) (u .work-room)
 
         pub calls-wrote : {r : Step} {value′ : List ℕ} → Wrote ar (combined Sum Apart ar (diagramOf (take (n * 3) best)) (diagramOf (take (m * 3) reward))) r value value′ → Wrote ar C r value value′
-        calls-wrote {r} {value′} w = subst (λ (o : Outcome Diagram). Wrote ar o r value value′) (sym (
-            done-then (λ r. combined Sum Apart ar (diagramOf (take (n * 3) best)) r) (y .result m l)
-            (done-then (λ best. andThen R (λ r. combined Sum Apart ar best r)) (x .result n k) calls-are))) w
+        calls-wrote {r} {value′} w = subst (λ (o : Outcome Diagram). Wrote ar o r value value′) (sym (both-done Sum Apart R calls-are x k y l)) w

@@ -19,16 +19,18 @@ use Rattle.regression.specs.declared.Regressed.the-variants.{Done as RegressedD
 use Rattle.regression.specs.Regression.{Truths, regressed}
 use Rattle.regression.specs.RegressCall.{truthsOf, regressedAs, writtenAs}
 use Rattle.regression.specs.NextLaws.{regressed-tells}
+use Rattle.mdp.specs.Model.{Variant}
 use Rattle.mdp.specs.Backup.{combined}
 use Rattle.regress.specs.Regressing.{Regressable}
 use Rattle.model.specs.Layout.{weightWords, spansAt, variantAt, rewardWords}
 use Rattle.model.specs.declared.Head.{Head}
 use Rattle.steps.specs.declared.Step.{Step}
 use Rattle.steps.specs.declared.Step.the-variants.{Rows, Refused}
-use Rattle.steps.specs.Steps.{Result, Given, Wrote, Begins, Operands, Scalable, Folding}
+use Rattle.steps.specs.Steps.{Result, Given, Wrote, Operands, Scalable}
 use Rattle.planner.specs.Parts.{variantProduct, variantAdded}
 use Rattle.planner.specs.Tasks.{regressedStep, VariantTask, WeightTask, RewardTask}
-use Rattle.steps.specs.GivenLaws.{listing-result, given-ok, given-refused, wrote-given, refused-then, done-then, given-same}
+use Rattle.steps.specs.GivenLaws.{listing-result, given-ok, given-refused, wrote-given, refused-then, given-same}
+use Rattle.planner.proofs.FollowLaws.{first-done, both-done, both-operands}
 
 -- ===== A variant regressed =====
 
@@ -122,45 +124,20 @@ module _ {ar listings table : List ℕ} {place : ℕ} {value out work : List ℕ
 
       module _ {n : ℕ} (h : a ≡ Rows n) {b : Step} {wei : List ℕ} (y : Given ar W b wei) where
         pub product-stops-2 : {e : Refusal} → b ≡ Refused e → {out′ : List ℕ} → Given ar P b out′
-        product-stops-2 k = refused-then (λ w. combined Product Shared ar (diagramOf (take (n * 3) reg)) w) y k
-            (done-then (λ r. andThen W (λ w. combined Product Shared ar r w)) (x .result n h) product-is)
+        product-stops-2 k = refused-then (λ w. combined Product Shared ar (diagramOf (take (n * 3) reg)) w) y k (first-done Product Shared W product-is x h)
 
         module _ {m : ℕ} (k : b ≡ Rows m) where
           pub product-operands : {work′ : List ℕ} → length work′ ≡ length work → Operands ar (take (n * 3) reg) (take (m * 3) wei) out work′
-          product-operands e = record { first = x .result n h .listing; second = y .result m k .listing; out-room = t .out-room; work-room = omega (arith, e, t .work-room) }
+          product-operands = both-operands Product Shared W product-is x h y k (t .out-room) (t .work-room)
 
           pub product-given : {r : Step} {out′ : List ℕ} → Wrote ar (combined Product Shared ar (diagramOf (take (n * 3) reg)) (diagramOf (take (m * 3) wei))) r out out′ → Given ar P r out′
-          product-given w = given-same (sym (
-              done-then (λ w. combined Product Shared ar (diagramOf (take (n * 3) reg)) w) (y .result m k)
-              (done-then (λ r. andThen W (λ w. combined Product Shared ar r w)) (x .result n h) product-is))) (wrote-given w)
+          product-given w = given-same (sym (both-done Product Shared W product-is x h y k)) (wrote-given w)
 
-    -- ===== Added to the sum =====
+-- ===== Added to the sum =====
 
-    module _ {n : ℕ} (s : Begins ar n out) where
-      abbrev S : Diagram
-      S = diagramOf (take (n * 3) out)
-
-      added-is : variantAdded ar g (diagramOf value) S (variantAt listings table place) ≡ andThen P (λ p. combined Sum Apart ar S p)
-      unfolding variantAdded
-      added-is = refl
-
-      module _ {a : Step} {pro : List ℕ} (x : Given ar P a pro) where
-        pub added-stops : {e : Refusal} → a ≡ Refused e → {out′ : List ℕ} → Given ar (variantAdded ar g (diagramOf value) S (variantAt listings table place)) a out′
-        added-stops h = refused-then (λ p. combined Sum Apart ar S p) x h added-is
-
-        module _ {m : ℕ} (h : a ≡ Rows m) where
-          pub added-folding : {work′ : List ℕ} → length work′ ≡ length work → Folding ar out n (take (m * 3) pro) work′
-          added-folding e = record {
-            first = s .listing;
-            second = x .result m h .listing;
-            inside = s .room;
-            buffer-room = t .out-room;
-            work-room = omega (arith, e, t .work-room);
-          }
-
-          pub added-given : {r : Step} {out′ : List ℕ} → Given ar (combined Sum Apart ar S (diagramOf (take (m * 3) pro))) r out′
-              → Given ar (variantAdded ar g (diagramOf value) S (variantAt listings table place)) r out′
-          added-given w = given-same (sym (done-then (λ p. combined Sum Apart ar S p) (x .result m h) added-is)) w
+pub added-is : (ar : List ℕ) (g : ℕ) (d sum : Diagram) (v : Variant) → variantAdded ar g d sum v ≡ andThen (variantProduct ar g d v) (λ p. combined Sum Apart ar sum p)
+unfolding variantAdded
+added-is ar g d sum v = refl
 
 -- ===== The reward =====
 

@@ -17,8 +17,8 @@ use Rattle.diagram.specs.Diagram.{Diagram, leaf, same}
 use Rattle.diagram.specs.Validity.{tree}
 use Rattle.diagram.specs.Sizes.{spaceRows}
 use Rattle.diagram.specs.DiagramLaws.{diagram-test}
+use Rattle.diagram.specs.RowLaws.{onto-mem}
 use Rattle.apply.specs.Formed.{add}
-use Rattle.apply.specs.RowLaws.{onto-mem}
 use Rattle.apply.specs.Snoc.{Begins, mem-begins}
 use Rattle.store.specs.declared.Formed.{Formed}
 use Rattle.store.specs.Space.{diagramsOf, Formation}

@@ -17,7 +17,7 @@ use Rattle.diagram.specs.Diagram.{Diagram, same}
 use Rattle.diagram.specs.DiagramLaws.{diagram-test, onto-old}
 use Rattle.diagram.specs.Rows.{onto}
 use Rattle.diagram.specs.RowLists.{Kept}
-use Rattle.diagram.specs.RowLaws.{onto-kept, kept-children, kept-nodup}
+use Rattle.diagram.specs.RowLaws.{onto-mem, onto-kept, kept-children, kept-nodup}
 use Rattle.apply.specs.declared.Operation.{Operation}
 use Rattle.apply.specs.Apply.{apply}
 use Rattle.apply.specs.Pairs.{pairs, pairCount, overflows}
@@ -25,7 +25,7 @@ use Rattle.apply.specs.Combination.{operate}
 use Rattle.apply.specs.Visit.{visit}
 use Rattle.apply.specs.Formed.{formed, ClosedRows}
 use Rattle.apply.specs.Snoc.{Begins, begins-refl, begins-trans, mem-begins}
-use Rattle.apply.specs.RowLaws.{onto-begins, onto-mem}
+use Rattle.apply.specs.RowLaws.{onto-begins}
 use Rattle.apply.specs.FormedLaws.{formed-visit, formed-count}
 use Rattle.regression.specs.Calls.{Run, pure, bind, form, combine}
 

@@ -152,6 +152,27 @@ accepted-checks {A} {P} ar truths p (suc n) after h = rw (checks-cons ar truths 
     go (some t) e ih = accepted-cond (leafAbove 1 t) Truth _ (λ b. accepted-cond (unboundVariable ar (getD ar p 0) t) Unbound _ (λ u.
         ih (λ y. h (all (λ d k. let z : some t ≡ some d = sym e ∙ k in let q : t ≡ d = cc in subst (Passes ar (getD ar p 0)) q (record { bits = b; bound = u })) y))))
 
+-- what passes the checks are good truth diagrams
+pub truths-passed : (ar truths spans : List ℕ) → areListings ar truths spans 1 (predicateCount - 1) ≡ true → PassAll ar (truthsOf truths spans) 1 (predicateCount - 1)
+    → GoodTruths ar (truthsOf truths spans)
+truths-passed ar truths spans h pass = record { each = λ p d i j e. go p d i j e (flag (eqb (truthCount spans p) 0)) }
+  where
+    go : (p : ℕ) (d : Diagram) → 0 < p → p < predicateCount → truthsOf truths spans p ≡ some d → Flag (eqb (truthCount spans p) 0) → GoodTruth ar d
+    go p d i j e (isTrue k) =
+        let z : none ≡ some d = sym (truths-none truths spans p (eqb-true _ _ k)) ∙ e in
+        let w : _≡_ {A = ℕ} 0 1 = cc in
+        absurd (omega arith)
+    go p d i j e (isFalse k) =
+        let n : truthCount spans p ≡ 0 → ⊥ = λ q. clash (eq-eqb _ _ q) k in
+        let z : some (diagramOf (truthWords truths spans p)) ≡ some d = sym (truths-some truths spans p n) ∙ e in
+        let q : diagramOf (truthWords truths spans p) ≡ d = cc in
+        let l = listings-at ar truths spans 1 (predicateCount - 1) h p (omega arith) (omega arith) n in
+        let g = is-listing-good ar (truthWords truths spans p) l in
+        record {
+          labels = subst (λ (x : Diagram). EveryLabel (λ l. isLabel ar l ≡ true) x) q (fine-every ar (diagramOf (truthWords truths spans p)) (g .fine));
+          bits = above-most 1 d (pass .each p d (omega arith) (omega arith) e .bits);
+        }
+
 -- the checks of a regression, in order
 module _ (ar value truths spans : List ℕ) (outLength workLength : ℕ) where
   pub regress-value : isListing ar value ≡ false → regressOutcome ar value truths spans outLength workLength ≡ refused Listing
@@ -174,26 +195,6 @@ module _ (ar value truths spans : List ℕ) (outLength workLength : ℕ) where
   unfolding regressOutcome
   regress-checks e d h k = rw (e, d, le-ltb outLength resultWords h, le-ltb workLength spaceWords k)
 
-  -- what passes the checks are good truth diagrams
-  truths-good : areListings ar truths spans 1 (predicateCount - 1) ≡ true → PassAll ar (truthsOf truths spans) 1 (predicateCount - 1) → GoodTruths ar (truthsOf truths spans)
-  truths-good h pass = record { each = λ p d i j e. go p d i j e (flag (eqb (truthCount spans p) 0)) }
-    where
-      go : (p : ℕ) (d : Diagram) → 0 < p → p < predicateCount → truthsOf truths spans p ≡ some d → Flag (eqb (truthCount spans p) 0) → GoodTruth ar d
-      go p d i j e (isTrue k) =
-          let z : none ≡ some d = sym (truths-none truths spans p (eqb-true _ _ k)) ∙ e in
-          let w : _≡_ {A = ℕ} 0 1 = cc in
-          absurd (omega arith)
-      go p d i j e (isFalse k) =
-          let n : truthCount spans p ≡ 0 → ⊥ = λ q. clash (eq-eqb _ _ q) k in
-          let z : some (diagramOf (truthWords truths spans p)) ≡ some d = sym (truths-some truths spans p n) ∙ e in
-          let q : diagramOf (truthWords truths spans p) ≡ d = cc in
-          let l = listings-at ar truths spans 1 (predicateCount - 1) h p (omega arith) (omega arith) n in
-          let g = is-listing-good ar (truthWords truths spans p) l in
-          record {
-            labels = subst (λ (x : Diagram). EveryLabel (λ l. isLabel ar l ≡ true) x) q (fine-every ar (diagramOf (truthWords truths spans p)) (g .fine));
-            bits = above-most 1 d (pass .each p d (omega arith) (omega arith) e .bits);
-          }
-
   -- an accepted regression: its listing says of a state what the value listing says of the next one
   pub regress-tells : Accepted (Tells ar (truthsOf truths spans) (diagramOf value)) (regressOutcome ar value truths spans outLength workLength)
   unfolding regressOutcome
@@ -202,7 +203,7 @@ module _ (ar value truths spans : List ℕ) (outLength workLength : ℕ) where
       accepted-cond (not (areListings ar truths spans 1 (predicateCount - 1))) Listing _ (λ l.
       accepted-cond (ltb outLength resultWords || ltb workLength spaceWords) Buffer _ (λ b.
       accepted-checks ar (truthsOf truths spans) 1 (predicateCount - 1) _ (λ pass.
-      regressed-tells ar (truthsOf truths spans) (diagramOf value) (truths-good (not-false _ l) pass) (is-listing-good ar value (not-false _ v))))))
+      regressed-tells ar (truthsOf truths spans) (diagramOf value) (truths-passed ar truths spans (not-false _ l) pass) (is-listing-good ar value (not-false _ v))))))
 
 pub regress-refused : (ar value truths spans : List ℕ) (outLength workLength : ℕ) (r : Refusal) → regressOutcome ar value truths spans outLength workLength ≡ refused r
     → regressAnswer ar value truths spans outLength workLength ≡ Refused r

@@ -33,10 +33,6 @@ pub map-agree : (f g : ℕ → ℕ) (xs : List ℕ) → All (λ x. f x ≡ g x) 
 map-agree f g [] a = refl
 map-agree f g (x ∷ xs) a = rw (a .0, map-agree f g xs (a .1))
 
-pub all-map : (P : ℕ → Type 0) (f : ℕ → ℕ) (xs : List ℕ) → All (λ x. P (f x)) xs → All P (map f xs)
-all-map P f [] a = tt
-all-map P f (x ∷ xs) a = (a .0, all-map P f xs (a .1))
-
 pub mem-map : (f : ℕ → ℕ) (x : ℕ) (xs : List ℕ) → mem eqb x xs ≡ true → mem eqb (f x) (map f xs) ≡ true
 mem-map f x [] e = clash e refl
 mem-map f x (y ∷ ys) e = go (either (eqb x y) _ e) (mem-map f x ys)

@@ -17,13 +17,13 @@ use Rattle.diagram.specs.Diagram.{Diagram}
 use Rattle.diagram.specs.Rows.{rows}
 use Rattle.diagram.specs.Listing.{listing, Fine, Good}
 use Rattle.diagram.specs.Variables.{occurs, occurring, variables, minimums, closedFrom, closed, after}
-use Rattle.rename.specs.Relabelling.{Named, relabelled, KindsFit}
+use Rattle.rename.specs.Relabelling.{Named, KindsFit}
 use Rattle.rename.specs.RelabelLaws.{labels-weaken, relabel-same}
 use Rattle.rename.specs.Ascending.{consecutive}
 use Rattle.rename.specs.AscendingLaws.{mem-place, rank-place, ascending-one, consecutive-ascending, in-consecutive, consecutive-in, rank-consecutive}
 use Rattle.rename.specs.TermLaws.{renamed-same}
 use Rattle.rename.specs.VariableLaws.{Origin, terms-each-occurs, named-labels, in-occurring, occurring-in, occurring-ascending, occurs-term, occurs-variable, occurs-minimum}
-use Rattle.rename.specs.VariableLaws.{variables-few, minimums-few, terms-numbered, renaming-good, renaming-rows, renaming-listing, occurs-renaming}
+use Rattle.rename.specs.VariableLaws.{variables-few, minimums-few, terms-numbered, renaming-good, renaming-rows, occurs-renaming}
 use Rattle.rename.specs.VariableLaws.{renaming-occurs}
 
 -- one kind of variables, of the c numbers from f on: ρ gives those of d the numbers from k on, in their order, and no other term of d a number of the kind
@@ -42,10 +42,6 @@ module _ (ar : List ℕ) (m n : ℕ) (d : Diagram) (fit : KindsFit ar m n d) (go
   pub closedFrom-good : Good ar (closedFrom ar m n d)
   unfolding closedFrom
   closedFrom-good = renaming-good ar (good .arities) _ _ closing-increasing d good (terms-numbered ar d (good .fine))
-
-  pub closedFrom-listing : listing (closedFrom ar m n d) ≡ relabelled (renamed ar (numbering (variables ar d) (minimums ar d) m n)) (listing d)
-  unfolding closedFrom
-  closedFrom-listing = renaming-listing ar (good .arities) _ _ closing-increasing d (good .fine) (terms-numbered ar d (good .fine))
 
   pub closedFrom-occurs : (t : ℕ) → occurs ar t d ≡ true → occurs ar (numbering (variables ar d) (minimums ar d) m n t) (closedFrom ar m n d) ≡ true
   unfolding closedFrom

@@ -17,7 +17,7 @@ use Rattle.diagram.specs.Rows.{rows}
 use Rattle.diagram.specs.Listing.{Good}
 use Rattle.diagram.specs.Variables.{occurs}
 use Rattle.rename.specs.Relabelling.{Terms}
-use Rattle.rename.specs.VariableLaws.{Origin, terms-each-occurs, occurs-term, renaming-good, renaming-rows, renaming-occurs}
+use Rattle.rename.specs.VariableLaws.{terms-each-occurs, occurs-term, renaming-good, renaming-rows}
 use Rattle.rename.specs.Valuations.{leafOf}
 use Rattle.rename.specs.ValuationLaws.{cond-below, leaf-agree, leaf-renaming}
 use Rattle.rename.specs.Freeing.{freed, Freeable, FreedBy, BoundBy, FreedFree}
@@ -74,10 +74,6 @@ module _ (ar : List ℕ) (c : ℕ) (d : Diagram) (good : Good ar d) (free : Free
   pub freed-rows : length (rows (freed ar c d)) ≡ length (rows d)
   unfolding freed
   freed-rows = renaming-rows ar (good .arities) (Freed c) (freeing c) increasing d (good .fine) terms-freed
-
-  pub occurs-in-freed : (t : ℕ) → occurs ar t (freed ar c d) ≡ true → Origin ar (freeing c) d t
-  unfolding freed
-  occurs-in-freed t e = renaming-occurs ar (good .arities) (Freed c) (freeing c) increasing d t (good .fine) terms-freed e
 
   -- no parameter is left
   pub leaf-freed : (h : ℕ → List ℕ → Bool) (θ : ℕ → ℕ) → leafOf ar h θ (freed ar c d) ≡ leafOf ar h (λ t. θ (freeing c t)) d

@@ -42,20 +42,9 @@ unfolding relabel
 relabel-same g (leaf v) e = refl
 relabel-same g (branch l t f) e = rw (e .0, relabel-same g t (e .1), relabel-same g f (e .2))
 
--- one change after another
-pub relabel-twice : (g h : ℕ → ℕ) (d : Diagram) → relabel h (relabel g d) ≡ relabel (λ l. h (g l)) d
-unfolding relabel
-relabel-twice g h (leaf v) = refl
-relabel-twice g h (branch l t f) = rw (relabel-twice g h t, relabel-twice g h f)
-
 pub labels-weaken : (Q R : ℕ → Type 0) (d : Diagram) → ((l : ℕ) → Q l → R l) → EveryLabel Q d → EveryLabel R d
 labels-weaken Q R (leaf v) h q = tt
 labels-weaken Q R (branch l t f) h q = (h l (q .0), labels-weaken Q R t h (q .1), labels-weaken Q R f h (q .2))
-
-pub labels-relabel : (Q R : ℕ → Type 0) (g : ℕ → ℕ) (d : Diagram) → ((l : ℕ) → Q l → R (g l)) → EveryLabel Q d → EveryLabel R (relabel g d)
-unfolding relabel
-labels-relabel Q R g (leaf v) h q = tt
-labels-relabel Q R g (branch l t f) h q = (h l (q .0), labels-relabel Q R g t h (q .1), labels-relabel Q R g f h (q .2))
 
 labels-snoc : (Q : ℕ → Type 0) (rs : List Diagram) (d : Diagram) → AllLabels Q rs → EveryLabel Q d → AllLabels Q (rs ++ (d ∷ []))
 labels-snoc Q [] d a q = (q, tt)

@@ -22,12 +22,12 @@ use Rattle.diagram.specs.DiagramLaws.{onto-old}
 use Rattle.diagram.specs.Rows.{onto}
 use Rattle.diagram.specs.Words.{labelAt, highAt, lowAt}
 use Rattle.diagram.specs.Validity.{tree}
-use Rattle.diagram.specs.RowLaws.{kept-index-is}
+use Rattle.diagram.specs.RowLaws.{onto-mem, kept-index-is}
 use Rattle.apply.specs.declared.Operation.the-variants.{Sum, Product}
 use Rattle.apply.specs.Snoc.{Begins, begins-trans}
 use Rattle.apply.specs.Formed.{add}
 use Rattle.apply.specs.FormedLaws.{add-begins}
-use Rattle.apply.specs.RowLaws.{onto-begins, onto-mem}
+use Rattle.apply.specs.RowLaws.{onto-begins}
 use Rattle.store.specs.declared.Formed.{Formed}
 use Rattle.store.specs.declared.Formed.the-variants.{Row as FormedRow, Full}
 use Rattle.store.specs.Space.{diagramsOf, Holds, standsFor, Formable, a-branch, Formation}

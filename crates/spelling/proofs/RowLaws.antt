@@ -53,9 +53,6 @@ module _ {ar names ws : List ℕ} {constants predicates i : ℕ} (g : Spelt ar n
   pub spelt-arities : areArities ar ≡ true
   spelt-arities = valid .arities
 
-  pub row-there : i * 3 + 3 ≤ length ws
-  row-there = omega arith
-
   shows : Shown ws (rowCount ws) (tree ws)
   shows = shown-rows ar ws valid
 

@@ -155,9 +155,6 @@ map-any names constants predicates (t ∷ ts) = rw (map-any names constants pred
 equal-shape : (a b : List ℕ) → 40 ∷ 61 ∷ 32 ∷ (a ++ 32 ∷ (b ++ 41 ∷ [])) ≡ (40 ∷ 61 ∷ []) ++ ((32 ∷ (a ++ (32 ∷ (b ++ [])))) ++ (41 ∷ []))
 equal-shape a b = simp (append-assoc, append-nil)
 
-holds-shape : (p ts : List ℕ) → 40 ∷ (p ++ (ts ++ 41 ∷ [])) ≡ ((40 ∷ []) ++ p) ++ (ts ++ (41 ∷ []))
-holds-shape p ts = refl
-
 module _ (ar names : List ℕ) (constants predicates l : ℕ) where
   equality-text : eqb (predicateOf l) equality ≡ true → atomBytes (atomTree ar (tablesAt names constants predicates) l)
       ≡ (40 ∷ 61 ∷ []) ++ (placesText names constants l 2 ++ (41 ∷ []))

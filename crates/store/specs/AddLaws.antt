@@ -9,11 +9,11 @@ use Rattle.diagram.specs.Diagram.{Diagram, leaf, branch, same, relabel}
 use Rattle.diagram.specs.Rows.{onto, rows}
 use Rattle.diagram.specs.DiagramLaws.{same-eq, diagram-test, onto-old, onto-leaf, onto-branch}
 use Rattle.diagram.specs.RowLists.{Kept}
-use Rattle.diagram.specs.RowLaws.{kept-children}
+use Rattle.diagram.specs.RowLaws.{onto-fresh, kept-children}
 use Rattle.apply.specs.Snoc.{Begins, begins-refl, begins-trans, mem-begins}
 use Rattle.apply.specs.Formed.{add, ClosedRows}
 use Rattle.apply.specs.FormedLaws.{add-old, add-new, add-mem, add-begins, add-leaf}
-use Rattle.apply.specs.RowLaws.{onto-fresh, onto-closed, rows-onto}
+use Rattle.apply.specs.RowLaws.{onto-closed, rows-onto}
 use Rattle.store.specs.Space.{addAll}
 
 -- the laws of `addAll`: nothing else unfolds it
@@ -56,14 +56,6 @@ add-branch l t f rs c = go (flag (mem same (branch l t f) rs))
         let k = c .children l t f e in
         rw (onto-old t rs (k .0), onto-old f rs (k .1), add-old (branch l t f) rs e, onto-old (branch l t f) rs e)
     go (isFalse e) = rw (add-new (branch l t f) (onto f (onto t rs)) (onto-fresh l t f rs e), onto-branch l t f rs e)
-
--- a branch whose children are rows
-pub onto-children : (l : ℕ) (t f : Diagram) (rs : List Diagram) → ClosedRows rs → mem same t rs ≡ true → mem same f rs ≡ true
-    → add (branch l t f) rs ≡ onto (branch l t f) rs
-onto-children l t f rs c p q =
-    let a = onto-old t rs p in
-    let b = onto-old f rs q in
-    ap (add (branch l t f)) (sym (ap (onto f) a ∙ b)) ∙ add-branch l t f rs c
 
 -- the rows that a walk finishes, added one by one
 pub add-all-onto : (d : Diagram) (rs done : List Diagram) → ClosedRows (addAll rs done) → addAll rs (onto d done) ≡ onto d (addAll rs done)

@@ -1,7 +1,7 @@
--- Laws of the hash index: the walk of a bucket's chain, what adding a row keeps, and clearing.
+-- Laws of the hash index: the walk of a bucket's chain, and what adding a row keeps.
 use mathlib.Core.Bool.{Bool, true, false, cond}
 use mathlib.Core.Path.{_≡_, refl, sym, ap, subst, _∙_}
-use mathlib.Core.Logic.{_⊎_, inl, inr, ⊎-elim}
+use mathlib.Core.Logic.{_⊎_, ⊎-elim}
 use mathlib.Core.List.{List, [], _∷_, _++_}
 use Prim.Native.Nat.{ℕ, suc, _+_, _-_, _*_, _<_, _≤_, zero-le}
 use native.Mathlib.Numerals.{add-one}
@@ -18,8 +18,8 @@ use Rattle.table.specs.declared.Added.{Added}
 use Rattle.table.specs.declared.Added.the-variants.{Old, New, Full}
 use Rattle.table.specs.Rows.{rowAt, putAt, rows, firstIn, sameRow}
 use Rattle.table.specs.Chains.{prev}
-use Rattle.table.specs.ChainLaws.{test, prev-zero, prev-same, prev-other, prev-le, prev-gap, prev-hits, prev-none, prev-ext}
-use Rattle.table.specs.Table.{buckets, mostRows, hashOf, hashAt, Table, Addable, Touched, Clean, addAnswer, addRows, addWhere, AddPost}
+use Rattle.table.specs.ChainLaws.{test, prev-zero, prev-same, prev-other, prev-le, prev-gap, prev-hits, prev-ext}
+use Rattle.table.specs.Table.{buckets, mostIndexed, hashOf, hashAt, Table, Addable, Clean, addAnswer, addRows, addWhere, AddPost}
 use Rattle.table.proofs.RowLaws.{found-at, found-none, put-other, put-same, length-put, length-rows, rows-put, drop-put, none-found, said-same, said-other}
 
 -- the walk of a chain for the row r: the rows at or above `at` are passed, and `at` is 0 or one more than a place in r's bucket
@@ -202,7 +202,7 @@ module _ {s : List ℕ} {limit count : ℕ} {r : Row} {x : Added} {s′ heads′
       (f .0, sym (length-rows s count) ∙ f .1)
 
 -- a table with no rows, over a clean index; any words, any links
-pub empty : (s heads links : List ℕ) (limit : ℕ) → limit * 3 ≤ length s → limit ≤ length links → limit ≤ mostRows → Clean heads → Table s heads links limit 0
+pub empty : (s heads links : List ℕ) (limit : ℕ) → limit * 3 ≤ length s → limit ≤ length links → limit ≤ mostIndexed → Clean heads → Table s heads links limit 0
 empty s heads links limit h₁ h₂ h₃ c = record {
   words = h₁;
   slots = c .slots;
@@ -218,48 +218,8 @@ empty s heads links limit h₁ h₂ h₃ c = record {
 pub clean-made : (n : ℕ) → buckets ≤ n → Clean (replicate n 0)
 clean-made n h = record { slots = rw length-replicate h; zeros = λ b l. getD-replicate n b 0 0 (omega arith) }
 
-pub empty-made : (s : List ℕ) (n₁ n₂ limit : ℕ) → limit * 3 ≤ length s → buckets ≤ n₁ → limit ≤ n₂ → limit ≤ mostRows → Table s (replicate n₁ 0) (replicate n₂ 0) limit 0
+pub empty-made : (s : List ℕ) (n₁ n₂ limit : ℕ) → limit * 3 ≤ length s → buckets ≤ n₁ → limit ≤ n₂ → limit ≤ mostIndexed → Table s (replicate n₁ 0) (replicate n₂ 0) limit 0
 empty-made s n₁ n₂ limit h₁ h₂ h₃ h₄ = empty s _ _ limit h₁ (rw length-replicate h₃) h₄ (clean-made n₁ h₂)
-
--- a table's index may be cleared, and is then the index of no rows
-pub touched : {s heads links : List ℕ} {limit count : ℕ} → Table s heads links limit count → Touched s heads count
-touched {s} {heads} {links} {limit} {count} t = record {
-  words = omega (arith, t .words, t .within);
-  slots = t .slots;
-  others = λ b h f. t .head b h ∙ prev-none (hashAt s) b count f;
-}
-
-pub cleared : {s heads links heads′ : List ℕ} {limit count : ℕ} → Table s heads links limit count → Clean heads′ → Table s heads′ links limit 0
-cleared {s} {heads} {links} {heads′} {limit} t c = empty s heads′ links limit (t .words) (t .places) (t .small) c
-
--- the loop of `clear`: the buckets that no row from i on has are clean
-pub record Clearing (s heads : List ℕ) (count i : ℕ) : Type 0 where
-  pub below : i ≤ count
-  pub slots : buckets ≤ length heads
-  pub others : (b : ℕ) → b < buckets → ((k : ℕ) → i ≤ k → k < count → hashAt s k ≡ b → ⊥) → getD heads b 0 ≡ 0
-
-pub clear-start : {s heads : List ℕ} {count : ℕ} → Touched s heads count → Clearing s heads count 0
-clear-start t = record { below = zero-le; slots = t .slots; others = λ b h f. t .others b h (λ i l e. f i zero-le l e) }
-
-pub clear-on : {s heads : List ℕ} {count i b : ℕ} {x : Row} → Clearing s heads count i → i < count → x ≡ rowAt s i → (b ≡ hashOf x) × (b < buckets)
-    → Clearing s (set heads b 0) count (i + 1)
-unfolding hashAt
-clear-on {s} {heads} {count} {i} {b} {x} w l p h =
-    record { below = omega arith; slots = rw length-set (w .slots); others = λ y m f. on y m f (test y b) }
-  where
-    at : b ≡ hashAt s i
-    at = h .0 ∙ ap hashOf p
-
-    on : (y : ℕ) → y < buckets → ((k : ℕ) → i + 1 ≤ k → k < count → hashAt s k ≡ y → ⊥) → (y ≡ b) ⊎ (y ≡ b → ⊥) → getD (set heads b 0) y 0 ≡ 0
-    on y m f (inl e) = rw e (getD-set-same heads b 0 0 (omega (arith, w .slots)))
-    on y m f (inr e) = getD-set-other heads b y 0 0 e ∙ w .others y m (λ k g n q. past k g n q (test k i))
-      where
-        past : (k : ℕ) → i ≤ k → k < count → hashAt s k ≡ y → (k ≡ i) ⊎ (k ≡ i → ⊥) → ⊥
-        past k g n q (inl u) = e (sym q ∙ ap (hashAt s) u ∙ sym at)
-        past k g n q (inr u) = f k (omega arith) n q
-
-pub clear-end : {s heads : List ℕ} {count i : ℕ} → Clearing s heads count i → count ≤ i → Clean heads
-clear-end {s} {heads} {count} {i} w n = record { slots = w .slots; zeros = λ b h. w .others b h (λ k l m e. omega arith) }
 
 -- the ways out of `find_or_add`, in the words of what `lookup` and `add` ensure, for `search`
 module _ {s heads links : List ℕ} {limit count : ℕ} {r : Row} {f : Found} (t : Table s heads links limit count) (l : f ≡ firstIn (rows s count) r) where

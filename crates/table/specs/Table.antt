@@ -18,9 +18,9 @@ use Rattle.table.specs.Chains.{prev}
 abbrev pub buckets : ℕ
 buckets = 2048
 
--- the most rows that can be indexed: an entry of the index is one more than a place, in 16 bits
-abbrev pub mostRows : ℕ
-mostRows = 65535
+-- the most rows, or pairs of a plan, that can be indexed: an entry of an index is one more than a place, in 16 bits
+abbrev pub mostIndexed : ℕ
+mostIndexed = 65535
 
 -- half of a word
 abbrev half : ℕ
@@ -44,7 +44,7 @@ pub record Table (s heads links : List ℕ) (limit count : ℕ) : Type 0 where
   pub words : limit * 3 ≤ length s
   pub slots : buckets ≤ length heads
   pub places : limit ≤ length links
-  pub small : limit ≤ mostRows
+  pub small : limit ≤ mostIndexed
   pub within : count ≤ limit
   pub head : (b : ℕ) → b < buckets → getD heads b 0 ≡ prev (hashAt s) b count
   pub link : (i : ℕ) → i < count → getD links i 0 ≡ prev (hashAt s) (hashAt s i) i
@@ -56,13 +56,7 @@ pub record Addable (s heads links : List ℕ) (limit count : ℕ) (r : Row) : Ty
   pub room : count < limit
   pub fresh : (i : ℕ) → i < count → rowAt s i ≡ r → ⊥
 
--- what `clear` requires: only the buckets of the first count rows of s may be in use
-pub record Touched (s heads : List ℕ) (count : ℕ) : Type 0 where
-  pub words : count * 3 ≤ length s
-  pub slots : buckets ≤ length heads
-  pub others : (b : ℕ) → b < buckets → ((i : ℕ) → i < count → hashAt s i ≡ b → ⊥) → getD heads b 0 ≡ 0
-
--- what `clear` ensures: no bucket is in use
+-- no bucket is in use
 pub record Clean (heads : List ℕ) : Type 0 where
   pub slots : buckets ≤ length heads
   pub zeros : (b : ℕ) → b < buckets → getD heads b 0 ≡ 0

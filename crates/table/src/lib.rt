@@ -3,7 +3,7 @@ ghost use mathlib.Core.Path.{_≡_};
 ghost use Prim.Native.Nat.{_+_, _*_, _<_, _≤_};
 ghost use lib.ListN.{length};
 ghost use Rattle.table.specs.Rows.{rowAt, putAt, rows, sameRow, firstIn};
-ghost use Rattle.table.specs.Table.{buckets, hashOf, Table, Addable, AddPost, Touched, Clean};
+ghost use Rattle.table.specs.Table.{buckets, hashOf, Table, Addable, AddPost};
 
 // Half of a word.
 const HALF: u64 = 4294967296;
@@ -141,18 +141,4 @@ pub fn find_or_add(
         return Added::New(count);
     };
     Added::Old(i)
-}
-
-// Empties the index of the first count rows: clears the buckets that they touched.
-pub fn clear(heads: &mut [u16], space: &[u64], count: usize)
-    requires { ⌜ Touched (now space) (now heads) count ⌝ }
-    ensures { λ _. ⌜ length (now (heads .exit)) ≡ length (now (heads .entry)) ⌝ }
-    ensures { λ _. ⌜ Clean (now (heads .exit)) ⌝ }
-{
-    let mut i = 0;
-    while i < count {
-        let h = hash(row_at(space, i));
-        heads[h] = 0;
-        i += 1;
-    }
 }

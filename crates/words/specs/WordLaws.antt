@@ -99,20 +99,7 @@ pub number-first : (n q : List ℕ) → IsNumber n → (48 ≤ getD (n ++ q) 0 0
 number-first n q g =
     rw (List·getD-append n q 0 0 (g .0)) (digit-range (getD n 0 0) (run-at isDigit n 0 (rw (g .1) (g .0))))
 
--- the value of a number up to 10^18 is exact, that of a greater one is 10^18 + 1
+-- the value of a number up to 10^18 is exact
 pub value-exact : (n : List ℕ) → decimal n < over → valueOf n ≡ decimal n
 unfolding valueOf
 value-exact n h = omega arith
-
-pub value-over : (n : List ℕ) → over ≤ decimal n → valueOf n ≡ over
-unfolding valueOf
-value-over n h = omega arith
-
-pub value-le : (n : List ℕ) → valueOf n ≤ over
-unfolding valueOf
-value-le n = omega arith
-
--- so a test against a limit of at most 10^18 is one of the number written
-pub value-below : (n : List ℕ) (limit : ℕ) → limit < over → (valueOf n ≤ limit → decimal n ≤ limit) × (decimal n ≤ limit → valueOf n ≤ limit)
-unfolding valueOf
-value-below n limit h = (λ e. omega arith, λ e. omega arith)

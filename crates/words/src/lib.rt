@@ -1,7 +1,7 @@
 // Bytes, names and numbers: the words of a text, and a name as two machine words.
 ghost use mathlib.Core.Path.{_≡_};
-ghost use Prim.Native.Nat.{ℕ, _+_, _≤_, _<_};
-ghost use lib.ListN.{length, getD, take, drop};
+ghost use Prim.Native.Nat.{_+_, _≤_, _<_};
+ghost use lib.ListN.{length, getD, drop};
 ghost use Rattle.words.specs.Bytes.{isLetter, isDigit, isNameByte, run, valueOf};
 ghost use Rattle.words.specs.Words.{nameForm, numberForm};
 ghost use Rattle.words.specs.Keys.{little, keyOf};

@@ -1,7 +1,7 @@
 use borrow.Author.Needs.{needs}
 use mathlib.Core.Path.{_≡_}
 use mathlib.Core.Bool.{false}
-use Prim.Native.Nat.{ℕ, _-_, _≤_}
+use Prim.Native.Nat.{_-_, _≤_}
 use Rattle.apply.specs.Combination.{operate}
 use Rattle.combine.specs.Results.{exceeds}
 use Rattle.combine.proofs.LeafLaws.{overflow-end, overflow-hit, overflow-on, overflow-start}

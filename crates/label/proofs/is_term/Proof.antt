@@ -1,4 +1,5 @@
-use Rattle.label.proofs.CodeLaws.{term-gap, term-high, term-low}
+use Rattle.label.specs.LabelLaws.{term-gap, term-high}
+use Rattle.label.proofs.CodeLaws.{term-low}
 use borrow.Author.Needs.{needs}
 use Rattle.label.proofs.is_term.Statement.{statement}
 use Rattle.label.proofs.is_term.Tie as tie

@@ -1,7 +1,6 @@
 use Rattle.label.specs.Limits.{firstMinimum}
-use borrow.Author.Needs.{needs}
 use native.Mathlib.Omega.{arith}
-use Prim.Native.Nat.{_-_, _≤_}
+use Prim.Native.Nat.{_-_}
 use Rattle.matcher.proofs.MarkLaws.{Copying, copying-start, copying-next, copying-end}
 use Rattle.matcher.proofs.copy_marks.Statement.{statement}
 use Rattle.matcher.proofs.copy_marks.Tie as tie

@@ -1,7 +1,6 @@
 use Rattle.label.specs.Limits.{firstMinimum}
-use borrow.Author.Needs.{needs}
 use native.Mathlib.Omega.{arith}
-use Prim.Native.Nat.{_-_, _≤_}
+use Prim.Native.Nat.{_-_}
 use Rattle.matcher.proofs.MarkLaws.{Keeping, keeping-start, keeping-next, keeping-end}
 use Rattle.matcher.proofs.keep_terms.Statement.{statement}
 use Rattle.matcher.proofs.keep_terms.Tie as tie

@@ -1,8 +1,7 @@
 use Rattle.label.specs.Limits.{firstVariable}
 use lib.ListN.{length-set}
-use borrow.Author.Needs.{needs}
 use native.Mathlib.Omega.{arith}
-use Prim.Native.Nat.{_-_, _≤_}
+use Prim.Native.Nat.{_-_}
 use Rattle.matcher.proofs.MarkLaws.{Unplacing, unplacing-start, unplacing-next, unplacing-end}
 use Rattle.matcher.proofs.unplace.Statement.{statement}
 use Rattle.matcher.proofs.unplace.Tie as tie

@@ -1,5 +1,4 @@
 use native.Mathlib.Omega.{arith}
-use mathlib.Core.Path.{subst, sym}
 use Rattle.matcher.proofs.WayLaws.{turn-below, place-straight, place-turned, place-twice, place-nothing}
 use borrow.Author.Needs.{needs}
 use Rattle.matcher.proofs.way_place.Statement.{statement}

@@ -3,10 +3,6 @@ use Rattle.pipes.specs.Tally.{Writes}
 use borrow.Author.Needs.{needs}
 use Rattle.pipes.proofs.write.Statement.{statement}
 use Rattle.pipes.proofs.write.Tie as tie
-use Rattle.pipes.proofs.write.Reads as reads
-use Rattle.pipes.proofs.write.Lts as lts
-use Rattle.io.proofs.write_all.Reads as write-all-reads
-use Rattle.pipes.proofs.stop.Reads as stop-reads
 
 sub-if1 : tie.Need-sub-if1
 sub-if1 c = search needs

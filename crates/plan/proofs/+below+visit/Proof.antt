@@ -1,6 +1,6 @@
 use borrow.Author.Needs.{needs}
+use Rattle.diagram.specs.Sizes.{spaceRows}
 use Rattle.plan.proofs.StepLaws.{word-full, word-to}
-use Rattle.plan.specs.Walk.{mostRows}
 use Rattle.plan.specs.Plan.{wentOf}
 use Rattle.plan.proofs.VisitLaws.{ready-key, ready-index, ready-rooms, visit-packable, visit-answer, visit-new, below-end, high-few, low-few, high-less, low-less}
 use Rattle.plan.proofs.VisitLaws.{high-ready, high-full, low-ready, low-full, low-index, below-branch}
@@ -25,7 +25,7 @@ use Rattle.plan.proofs.+below+visit.Tie.{close}
 
 -- what falls: the sum of the rows of a key's pair
 abbrev rowsOf : ℕ → ℕ
-rowsOf k = k / mostRows + k % mostRows
+rowsOf k = k / spaceRows + k % spaceRows
 
 abbrev μ-below : Measures 4 below-kinds.ps ℕ
 μ-below κs a = rowsOf (a .1 .1 .1 .1 .1 .1 .0) * 2

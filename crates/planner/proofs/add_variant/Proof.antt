@@ -1,6 +1,9 @@
 use Rattle.steps.specs.GivenLaws.{result-few, result-long}
-use Rattle.planner.proofs.VariantLaws.{task-fresh, added-stops, added-folding, added-given}
+use Rattle.planner.proofs.VariantLaws.{task-fresh, added-is}
+use Rattle.planner.proofs.FollowLaws.{folded-refused, folded-able, folded-given}
 use lib.Dec.{lit≤}
+use Rattle.apply.specs.declared.Operation.the-variants.{Sum}
+use Rattle.apply.specs.declared.Names.the-variants.{Apart}
 use borrow.Author.Needs.{needs}
 use Rattle.planner.proofs.add_variant.Statement.{statement}
 use Rattle.planner.proofs.add_variant.Tie as tie
@@ -14,7 +17,7 @@ returns : tie.Need-returns
 returns c =
     let at-variant-product = c .before .before .before .before .before in
     let entry = at-variant-product .before .before .before .before .before .before .before .before .before in
-    added-stops (entry .pre .0) _ (entry .pre .1 .1) (at-variant-product .variant-product .ensures) (c .enum-told .given .1)
+    folded-refused (entry .pre .1 .1) Sum Apart (added-is _ _ _ _ _) (at-variant-product .variant-product .ensures) (c .enum-told .given .1)
 
 mul-product : tie.Need-mul-product
 mul-product c = let p = result-few (c .before .before .before .before .before .before .before .variant-product .ensures .result _ (c .before .before .a .given .1)) in search needs
@@ -30,7 +33,7 @@ add-apart-requires c κs =
     let at-a = c .before .before .before .before in
     let at-variant-product = at-a .before .before .before .before .before in
     let entry = at-variant-product .before .before .before .before .before .before .before .before .before in
-    added-folding (entry .pre .0) _ (entry .pre .1 .1) (at-variant-product .variant-product .ensures) (at-a .a .given .1)
+    folded-able (entry .pre .1 .1) Sum Apart (added-is _ _ _ _ _) (at-variant-product .variant-product .ensures) (at-a .a .given .1) (entry .pre .0 .out-room) (entry .pre .0 .work-room)
     (at-variant-product .variant-product .kept .1 .1 .1 .1 .1 .1 .1 .0)
 
 returns-2 : tie.Need-returns-2
@@ -39,7 +42,7 @@ returns-2 c =
     let at-a = at-add-apart .before .before .before .before .before in
     let at-variant-product = at-a .before .before .before .before .before in
     let entry = at-variant-product .before .before .before .before .before .before .before .before .before in
-    added-given (entry .pre .0) _ (entry .pre .1 .1) (at-variant-product .variant-product .ensures) (at-a .a .given .1) (at-add-apart .add-apart .ensures)
+    folded-given (entry .pre .1 .1) Sum Apart (added-is _ _ _ _ _) (at-variant-product .variant-product .ensures) (at-a .a .given .1) (at-add-apart .add-apart .ensures)
 
 pub add-variant-spec : {M : Type 1} → statement M
 add-variant-spec =

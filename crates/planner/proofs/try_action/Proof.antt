@@ -1,6 +1,9 @@
 use Rattle.steps.specs.GivenLaws.{result-long, result-few}
-use Rattle.planner.proofs.SumLaws.{value-fresh, tried-stops, tried-folding, tried-given}
+use Rattle.planner.proofs.SumLaws.{value-fresh, tried-is}
+use Rattle.planner.proofs.FollowLaws.{folded-refused, folded-able, folded-given}
 use lib.Dec.{lit≤}
+use Rattle.apply.specs.declared.Operation.the-variants.{Max}
+use Rattle.apply.specs.declared.Names.the-variants.{Shared}
 use borrow.Author.Needs.{needs}
 use Rattle.planner.proofs.try_action.Statement.{statement}
 use Rattle.planner.proofs.try_action.Tie as tie
@@ -14,7 +17,7 @@ returns : tie.Need-returns
 returns c =
     let at-action-value = c .before .before .before .before .before in
     let entry = at-action-value .before .before .before .before .before .before .before .before .before in
-    tried-stops (entry .pre .0) (entry .pre .1 .0) (entry .pre .1 .1) (at-action-value .action-value .ensures) (c .enum-told .given .1)
+    folded-refused (entry .pre .1 .1) Max Shared (tried-is _ _ _ _ _) (at-action-value .action-value .ensures) (c .enum-told .given .1)
 
 mul-gain : tie.Need-mul-gain
 mul-gain c = let p = result-few (c .before .before .before .before .before .before .before .action-value .ensures .result _ (c .before .before .a .given .1)) in search needs
@@ -30,7 +33,7 @@ fold-shared-requires c κs =
     let at-a = c .before .before .before .before in
     let at-action-value = at-a .before .before .before .before .before in
     let entry = at-action-value .before .before .before .before .before .before .before .before .before in
-    tried-folding (entry .pre .0) (entry .pre .1 .0) (entry .pre .1 .1) (at-action-value .action-value .ensures) (at-a .a .given .1)
+    folded-able (entry .pre .1 .1) Max Shared (tried-is _ _ _ _ _) (at-action-value .action-value .ensures) (at-a .a .given .1) (entry .pre .1 .0 .out-room) (entry .pre .1 .0 .work-room)
     (at-action-value .action-value .kept .1 .1 .1 .1 .1 .1 .1 .0)
 
 returns-2 : tie.Need-returns-2
@@ -39,7 +42,7 @@ returns-2 c =
     let at-a = at-fold-shared .before .before .before .before .before in
     let at-action-value = at-a .before .before .before .before .before in
     let entry = at-action-value .before .before .before .before .before .before .before .before .before in
-    tried-given (entry .pre .0) (entry .pre .1 .0) (entry .pre .1 .1) (at-action-value .action-value .ensures) (at-a .a .given .1) (at-fold-shared .fold-shared .ensures)
+    folded-given (entry .pre .1 .1) Max Shared (tried-is _ _ _ _ _) (at-action-value .action-value .ensures) (at-a .a .given .1) (at-fold-shared .fold-shared .ensures)
 
 pub try-action-spec : {M : Type 1} → statement M
 try-action-spec =

@@ -2,7 +2,6 @@ use Rattle.regress.proofs.RowsLaws.{Going, going-start, going-taskable,
 use Rattle.regress.specs.Tasks.{replacedBy}
 use Rattle.row_steps.specs.Running.{Ready}
 use borrow.Author.Needs.{needs}
-use native.Mathlib.Omega.{arith}
 use lib.ListN.{length}
 use Prim.Native.Nat.{_-_}
 use mathlib.Core.Path.{_≡_, refl, sym, _∙_}
