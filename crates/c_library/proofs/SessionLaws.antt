@@ -22,9 +22,9 @@ use Rattle.answers.specs.declared.Put.{Put}
 use Rattle.answers.specs.declared.Put.the-variants.{At, Full}
 use Rattle.answers.specs.Writing.{mostBytes, putAnswer, putResult, Placed}
 use Rattle.session.specs.declared.Part.{Part}
-use Rattle.session.specs.Session.{Session, opening}
+use Rattle.session.specs.Session.{Session, opening, withLive}
 use Rattle.session.specs.Good.{GoodSession}
-use Rattle.session.specs.Replies.{withLive, reply}
+use Rattle.session.specs.Replies.{reply}
 use Rattle.session.specs.Texts.{hasBytes, linesOf, Progress, replyBytes, unfinished, closing, afterLine}
 use Rattle.facts.specs.Words.{stateWords, GoodLive, Remade}
 use Rattle.facts.specs.WordLaws.{reindexed-live}

@@ -25,9 +25,9 @@ use Rattle.events.specs.Contents.{keyIn, numberIn, wordAt, keysIn}
 use Rattle.answers.specs.declared.Answer.the-variants.{Refused as RefusedAs, Nothing}
 use Rattle.session.specs.declared.Part.{Part}
 use Rattle.session.specs.declared.Part.the-variants.{Model, Run}
-use Rattle.session.specs.Session.{Names, refuseIf}
-use Rattle.session.specs.Declaring.{Vocabulary, constantLine, predicateLine, isTotal, totalLine, isDiscount, discountLine, repeated, actionLine}
-use Rattle.session.specs.Replies.{withNames, withVocabulary, withTotal, withDiscount, withAction, done, wordsOf}
+use Rattle.session.specs.Session.{Names, withNames, refuseIf}
+use Rattle.session.specs.Declaring.{constantLine, Vocabulary, predicateLine, withVocabulary, isTotal, totalLine, withTotal, isDiscount, discountLine, withDiscount, repeated, actionLine, withAction}
+use Rattle.session.specs.Replies.{done, wordsOf}
 use Rattle.declare.specs.declared.Counts.{Counts}
 use Rattle.declare.specs.declared.Declared.{Declared}
 use Rattle.declare.specs.declared.Declared.the-variants.{Done, Refused}

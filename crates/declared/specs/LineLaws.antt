@@ -10,7 +10,7 @@ use lib.Seq.{getD-set-other}
 use lib.Dec.{eqb, ltb, leb}
 use Rattle.basics.specs.Tests.{Flag, isTrue, isFalse, flag, neither}
 use Rattle.refusal.specs.declared.Refusal.the-variants.{Name, Range, Truth, Space}
-use Rattle.refusal.specs.Outcome.{Outcome, ok, andThen, Accepted}
+use Rattle.refusal.specs.Outcome.{Outcome, ok, Accepted}
 use Rattle.refusal.specs.OutcomeLaws.{accepted-ok, accepted-refused, accepted-then, accepted-next, accepted-cond}
 use Rattle.label.specs.Limits.{constantCount, predicateCount, parameterCount, mostPlaces}
 use Rattle.words.specs.Keys.{keyOf}
@@ -33,7 +33,8 @@ use Rattle.cutting.specs.Cut.{diagramAnswer, isTrueEdge}
 use Rattle.reduction.specs.Reduction.{reduceAnswer}
 use Rattle.mdp.specs.Model.{Variant, Action, Every, mostVariants, mostActions}
 use Rattle.mdp.specs.Backup.{backup}
-use Rattle.mdp.specs.Runs.{Held, begin}
+use Rattle.mdp.specs.Runs.{Call, aBackup, aCut, aReduce, Held, leaves, cutOutcome, heldWith, call, begin}
+use Rattle.mdp.specs.StepLaws.{held-with}
 use Rattle.reading.specs.declared.Binding.{Binding}
 use Rattle.reading.specs.declared.Binding.the-variants.{Any, None, Only}
 use Rattle.reading.specs.Reading.{arguments, reading}
@@ -44,12 +45,12 @@ use Rattle.build.specs.Machine.{mostTests, built, builtClosed}
 use Rattle.session.specs.declared.Part.the-variants.{Model, Run}
 use Rattle.session.specs.declared.Rule.the-variants as R
 use Rattle.session.specs.Place.{ruleOf}
-use Rattle.session.specs.Session.{Names, Session}
-use Rattle.session.specs.Declaring.{isDeclared, constantLine, Vocabulary, predicateLine, repeated, actionLine}
+use Rattle.session.specs.Session.{Names, Session, withNames, withHeld}
+use Rattle.session.specs.Declaring.{isDeclared, constantLine, Vocabulary, predicateLine, withVocabulary, withTotal, withDiscount, repeated, actionLine, withAction}
 use Rattle.session.specs.ModelLines.{mostModelRows, namesFor, rowsWith, withReward, rewardRead, rewardLine, addVariant, noTruths, withVariant, weightRead, variantLine}
 use Rattle.session.specs.ModelLines.{withTruthAt, lastTruths, lastVariant, truthsNow, isSome, withTruth, truthRead, becomesLine, weighed}
-use Rattle.session.specs.Running.{withHeld, startLine, backupLine, CutDone, cutTo, cutLine, reduceLine}
-use Rattle.session.specs.Replies.{Reply, withNames, withVocabulary, withTotal, withDiscount, withAction, wordsOf, reply}
+use Rattle.session.specs.Running.{startLine}
+use Rattle.session.specs.Replies.{Reply, wordsOf, reply}
 use Rattle.session.specs.Good.{GoodTables, GoodSession}
 use Rattle.model_laws.specs.ActionLaws.{length-more, every-more, withTruths}
 use Rattle.model_laws.specs.HeadLaws.{head-headed}
@@ -269,10 +270,8 @@ module _ (σ : Session) (h : DeclaredSession σ) where
   held-declared x w = record { constants = h .constants; predicates = h .predicates; in-reward = h .in-reward; in-actions = h .in-actions; in-value = w }
 
   -- a value diagram that a call answers
-  pub answered-declared : (o : Outcome Diagram) (k : ℕ) (x : Held) → Accepted Named o → andThen o (λ d. ok (record { diagram = d; steps = k })) ≡ ok x
-      → DeclaredSession (withHeld σ (σ .part) x)
-  answered-declared o k x a e =
-      held-declared x (accepted-then {Q = λ (y : Held). Named (y .diagram)} o a (λ d w. accepted-ok w) .given x e)
+  pub answered-declared : (o : Outcome Diagram) (k : ℕ) (x : Held) → Accepted Named o → heldWith k o ≡ ok x → DeclaredSession (withHeld σ (σ .part) x)
+  answered-declared o k x a e = held-declared x (a .given (x .diagram) (held-with k o e .0))
 
   start-declared : (τ : Session) → startLine σ ≡ ok τ → DeclaredSession τ
   unfolding startLine begin
@@ -281,28 +280,23 @@ module _ (σ : Session) (h : DeclaredSession σ) where
       (λ u. record { constants = h .constants; predicates = h .predicates; in-reward = h .in-reward; in-actions = h .in-actions; in-value = h .in-reward }) τ e
 
   module _ (good : GoodSession σ) (run : σ .part ≡ Run) where
-    backup-line : (x : Held) → backupLine (σ .model) (σ .held) ≡ ok x → DeclaredSession (withHeld σ (σ .part) x)
-    unfolding backupLine
-    backup-line x e =
+    -- a backup, a cut or a reduction
+    call-declared : (c : Call) (x : Held) → call (σ .model) c (σ .held) ≡ ok x → DeclaredSession (withHeld σ (σ .part) x)
+    unfolding call cutOutcome
+    call-declared aBackup x e =
         let b = good .begun run in
         answered-declared (backup (σ .model) (σ .held .steps) (σ .held .diagram)) (suc (σ .held .steps)) x
         (backup-declared (σ .model) (length (σ .names .constants)) (length (σ .names .predicates)) (b .good) (σ .held .diagram) (b .value) (h .in-value)
         (h .in-reward) (h .in-actions) (σ .held .steps)) e
-
-    cut-line : (x : CutDone) → cutLine (σ .model .arities) (σ .held) ≡ ok x → DeclaredSession (withHeld σ (σ .part) (x .held))
-    unfolding cutLine
-    cut-line x p = held-declared (x .held) (go (diagramAnswer (σ .model .arities) (σ .held .diagram)) .given x p)
+    call-declared aCut x e = answered-declared (cutOutcome (σ .model .arities) (σ .held .diagram)) (σ .held .steps) x (go (diagramAnswer (σ .model .arities) (σ .held .diagram))) e
       where
-        go : (c : Cut) → Accepted (λ (y : CutDone). Named (y .held .diagram)) (cutTo (σ .model .arities) (σ .held) c)
-        go (C.Done k e n) =
+        go : (q : Cut) → Accepted Named (leaves (σ .model .arities) (σ .held .diagram) q)
+        go (C.Done k d n) =
             let b = good .begun run in
             accepted-ok
-            (cut-declared (σ .model) (length (σ .names .constants)) (length (σ .names .predicates)) (b .good) (σ .held .diagram) (b .value) (h .in-value) k (isTrueEdge e))
+            (cut-declared (σ .model) (length (σ .names .constants)) (length (σ .names .predicates)) (b .good) (σ .held .diagram) (b .value) (h .in-value) k (isTrueEdge d))
         go (C.Refused r) = accepted-refused
-
-    reduce-line : (x : Held) → reduceLine (σ .model .arities) (σ .held) ≡ ok x → DeclaredSession (withHeld σ (σ .part) x)
-    unfolding reduceLine
-    reduce-line x e =
+    call-declared aReduce x e =
         let b = good .begun run in
         answered-declared (reduceAnswer (σ .model .arities) (σ .held .diagram)) (σ .held .steps) x
         (reduce-declared (σ .model) (length (σ .names .constants)) (length (σ .names .predicates)) (b .good) (σ .held .diagram) (b .value) (h .in-value)) e
@@ -357,9 +351,9 @@ module _ (σ : Session) (good : GoodSession σ) (h : DeclaredSession σ) where
     forIs = λ l e t. h;
     forTrue = λ l e t. h;
     forValue = λ v e t. h;
-    forBackup = λ x e t. backup-line σ h good (run K.Backup refl t) x e;
-    forCut = λ x e t. cut-line σ h good (run K.Cut refl t) x e;
-    forReduce = λ x e t. reduce-line σ h good (run K.Reduce refl t) x e;
+    forBackup = λ x e t. call-declared σ h good (run K.Backup refl t) aBackup x e;
+    forCut = λ x row edge left e d t. call-declared σ h good (run K.Cut refl t) aCut x e;
+    forReduce = λ x e t. call-declared σ h good (run K.Reduce refl t) aReduce x e;
     forShow = λ t. h;
     forText = λ n e t. h;
     forBest = λ x e t. h;

@@ -22,9 +22,9 @@ use Rattle.events.specs.Contents.{keyIn, wordAt, numbersIn}
 use Rattle.mdp.specs.Model.{Model}
 use Rattle.replay.specs.Replay.{Did, Replay}
 use Rattle.answers.specs.declared.Answer.the-variants as A
-use Rattle.session.specs.Session.{Live as SessionLive}
+use Rattle.session.specs.Session.{Live as SessionLive, withLive}
 use Rattle.session.specs.Replaying.{replayIn, replayed, didTo, didLine}
-use Rattle.session.specs.Replies.{Reply, withLive, didSays, done, wordsOf}
+use Rattle.session.specs.Replies.{Reply, didSays, done, wordsOf}
 use Rattle.declare.specs.Tables.{namesOf}
 use Rattle.facts.specs.declared.Live.{Live}
 use Rattle.facts.specs.declared.Told.{Told}

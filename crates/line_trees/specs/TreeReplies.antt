@@ -22,17 +22,18 @@ use Rattle.diagram.specs.Rows.{rows}
 use Rattle.regression.specs.RegressCall.{leafAbove}
 use Rattle.reading.specs.Reading.{arguments}
 use Rattle.build.specs.Build.{textDiagram, rewardDiagram}
+use Rattle.cutting.specs.Cut.{diagramAnswer}
 use Rattle.mdp.specs.Model.{mostVariants}
+use Rattle.mdp.specs.Runs.{aBackup, aCut, aReduce, call}
 use Rattle.answers.specs.declared.Answer.the-variants as A
 use Rattle.session.specs.Place.{ruleOf}
-use Rattle.session.specs.Session.{Session, refuseIf}
-use Rattle.session.specs.Declaring.{constantLine, predicateLine, totalLine, discountLine, repeated, actionLine}
+use Rattle.session.specs.Session.{Session, withNames, withLive, refuseIf}
+use Rattle.session.specs.Declaring.{constantLine, predicateLine, withVocabulary, totalLine, withTotal, discountLine, withDiscount, repeated, actionLine, withAction}
 use Rattle.session.specs.Facts.{predicateOf, objectsLine, isLine, trueLine}
 use Rattle.session.specs.ModelLines.{mostModelRows, rowsWith, withReward, withVariant, truthsNow, isSome, withTruth}
 use Rattle.session.specs.Replaying.{didLine}
-use Rattle.session.specs.Running.{startLine, valueRead, backupLine, cutLine, reduceLine, formRead, bestRead, countRead}
-use Rattle.session.specs.Replies.{Reply, allowed, withNames, withLive, withVocabulary, withTotal, withDiscount, withAction}
-use Rattle.session.specs.Replies.{refusal, quietly, valueSays, backupSays, cutSays, reduceSays, textSays, bestSays, countSays, didSays, placed}
+use Rattle.session.specs.Running.{startLine, valueRead, backupIs, cutIs, reduceIs, formRead, bestRead, countRead}
+use Rattle.session.specs.Replies.{Reply, allowed, refusal, quietly, valueSays, callSays, textSays, bestSays, countSays, didSays, placed}
 use Rattle.line_trees.specs.TreeReading.{rewardVariables, readTree}
 
 -- (reward DIAGRAM): no parameter, any variables, of each kind by ascending N where each is written so; its row steps, closed up; last 9 for model rows
@@ -71,8 +72,8 @@ truthTree σ k vs d =
 -- what a line of each kind does and is answered, where it stands where it may; no tree is of the last kind
 unfoldable pub treeDone : Session → ℕ → (k : Kind) → Words k → Reply
 unfolding keyOf valueOf constantLine predicateLine totalLine discountLine actionLine rewardTree withReward weightTree withVariant truthTree withTruth
-    startLine objectsLine isLine trueLine withVocabulary withTotal withDiscount withAction valueRead backupLine cutLine reduceLine formRead bestRead
-    countRead didLine rows
+    startLine objectsLine isLine trueLine withVocabulary withTotal withDiscount withAction valueRead call diagramAnswer formRead bestRead countRead
+    didLine rows
 treeDone σ number K.Constant n = quietly σ number (withNames σ) (constantLine (σ .names) (keyOf n))
 treeDone σ number K.Predicate w =
     quietly σ number (withVocabulary σ) (predicateLine (record { names = σ .names; arities = σ .model .arities }) (keyOf (w .0)) (valueOf (w .1)))
@@ -89,10 +90,10 @@ treeDone σ number K.Is w = quietly σ number (withLive σ) (isLine (σ .names) 
 treeDone σ number K.True w =
     quietly σ number (withLive σ) (trueLine (σ .model .arities) (σ .names) (σ .live) (keyOf (w .0)) (map valueOf (w .1)))
 treeDone σ number K.Value w = valueSays σ number (valueRead (σ .model .arities) (σ .live) (σ .held .diagram))
-treeDone σ number K.Backup w = backupSays σ number (backupLine (σ .model) (σ .held))
-treeDone σ number K.Cut w = cutSays σ number (cutLine (σ .model .arities) (σ .held))
+treeDone σ number K.Backup w = callSays σ number backupIs (call (σ .model) aBackup (σ .held))
+treeDone σ number K.Cut w = callSays σ number (λ h. cutIs (diagramAnswer (σ .model .arities) (σ .held .diagram))) (call (σ .model) aCut (σ .held))
 treeDone σ number K.Show w = record { session = σ; answer = A.Show (length (rows (σ .held .diagram))) }
-treeDone σ number K.Reduce w = reduceSays σ number (reduceLine (σ .model .arities) (σ .held))
+treeDone σ number K.Reduce w = callSays σ number reduceIs (call (σ .model) aReduce (σ .held))
 treeDone σ number K.Text w = textSays σ number (formRead (σ .model .arities) (σ .names) (σ .held .diagram))
 treeDone σ number K.Best w = bestSays σ number (bestRead (σ .model) (σ .live) (σ .held .diagram))
 treeDone σ number K.Count n = countSays σ number (valueOf n) (countRead (σ .model) (σ .names) (σ .live) (σ .held .diagram) (valueOf n))

@@ -19,7 +19,7 @@
 --   highestScale, mostSteps, scaleEnds == S^(k+1) is above 10^18, or k is 10^18: 12
 --   rowOfCalls, backup == the best over the actions, plus the reward times S^(k+1), apart; 12 first; the first refusal met is the answer
 --   leaves, cutOutcome == a cut as an outcome
---   Call, Held, taken, call == a backup, a cut or a reduction; the value diagram and k; an accepted call replaces them, a refused one leaves them
+--   Call, Held, heldWith, call, taken == a backup, a cut or a reduction; the value diagram and k; what a call gives of them or what refuses it; a refused call leaves them
 --   begin, runFrom, run == the reward and 0, then a list of calls
 --
 -- Definitions: document 01's run

@@ -13,7 +13,7 @@ use Rattle.reduction.specs.ReductionLaws.{reduce-is}
 use Rattle.mdp.specs.Model.{Model, GoodModel}
 use Rattle.mdp.specs.Bellman.{rewardIn, bellman}
 use Rattle.mdp.specs.Backup.{backup}
-use Rattle.mdp.specs.Runs.{Call, aBackup, aCut, aReduce, Held, cutOutcome, taken, call, runFrom, begin, run}
+use Rattle.mdp.specs.Runs.{Call, aBackup, aCut, aReduce, Held, cutOutcome, heldWith, call, taken, runFrom, begin, run}
 use Rattle.mdp.specs.BackupLaws.{bound-none, backup-is}
 use Rattle.mdp.specs.CutLaws.{cut-is}
 
@@ -21,12 +21,12 @@ use Rattle.mdp.specs.CutLaws.{cut-is}
 abbrev pub Right : Model → Held → Type 0
 Right m h = Values (m .arities) (bellman m (h .steps)) (h .diagram)
 
-taken-right : (m : Model) (h : Held) (o : Outcome Diagram) (k : ℕ) → Right m h → Accepted (Values (m .arities) (bellman m k)) o → Right m (taken h o k)
+taken-right : (m : Model) (h : Held) (o : Outcome Diagram) (k : ℕ) → Right m h → Accepted (Values (m .arities) (bellman m k)) o → Right m (taken h (heldWith k o))
 taken-right m h (ok d) k r a = a .given d refl
 taken-right m h (refused e) k r a = r
 
 module _ (m : Model) (good : GoodModel m) where
-  pub call-right : (c : Call) (h : Held) → Right m h → Right m (call m c h)
+  pub call-right : (c : Call) (h : Held) → Right m h → Right m (taken h (call m c h))
   unfolding call
   call-right aBackup h r = taken-right m h (backup m (h .steps) (h .diagram)) (suc (h .steps)) r (backup-is m good (h .steps) (h .diagram) r)
   call-right aCut h r = taken-right m h (cutOutcome (m .arities) (h .diagram)) (h .steps) r (cut-is (m .arities) (bellman m (h .steps)) (h .diagram) r)
@@ -35,7 +35,7 @@ module _ (m : Model) (good : GoodModel m) where
   pub runFrom-right : (l : List Call) (h : Held) → Right m h → Right m (runFrom m l h)
   unfolding runFrom
   runFrom-right [] h r = r
-  runFrom-right (c ∷ l) h r = runFrom-right l (call m c h) (call-right c h r)
+  runFrom-right (c ∷ l) h r = runFrom-right l (taken h (call m c h)) (call-right c h r)
 
   pub begin-right : Right m (begin m)
   unfolding begin bellman rewardIn

@@ -1,7 +1,7 @@
 -- Runs of backups, cuts and reductions on one model (document 01, sections 'Backup' and 'Cut'; document 02, L13).
 use mathlib.Core.List.{List, [], _∷_}
 use Prim.Native.Nat.{ℕ, suc}
-use Rattle.refusal.specs.Outcome.{Outcome, ok, refused}
+use Rattle.refusal.specs.Outcome.{Outcome, ok, refused, andThen}
 use Rattle.diagram.specs.Diagram.{Diagram}
 use Rattle.cutting.specs.declared.Cut.{Cut}
 use Rattle.cutting.specs.declared.Cut.the-variants.{Done, Refused}
@@ -29,22 +29,26 @@ unfoldable pub cutOutcome : List ℕ → Diagram → Outcome Diagram
 unfolding diagramAnswer cutDiagram
 cutOutcome ar d = leaves ar d (diagramAnswer ar d)
 
--- an accepted call replaces the value diagram and k; a refused one leaves both
-abbrev pub taken : Held → Outcome Diagram → ℕ → Held
-taken h (ok d) k = record { diagram = d; steps = k }
-taken h (refused r) k = h
+-- a call's result, with k behind it
+abbrev pub heldWith : ℕ → Outcome Diagram → Outcome Held
+heldWith k o = andThen o (λ d. ok (record { diagram = d; steps = k }))
 
 -- an accepted backup adds 1 to k, an accepted cut or reduction leaves it
-unfoldable pub call : Model → Call → Held → Held
+unfoldable pub call : Model → Call → Held → Outcome Held
 unfolding backup cutOutcome reduceAnswer
-call m aBackup h = taken h (backup m (h .steps) (h .diagram)) (suc (h .steps))
-call m aCut h = taken h (cutOutcome (m .arities) (h .diagram)) (h .steps)
-call m aReduce h = taken h (reduceAnswer (m .arities) (h .diagram)) (h .steps)
+call m aBackup h = heldWith (suc (h .steps)) (backup m (h .steps) (h .diagram))
+call m aCut h = heldWith (h .steps) (cutOutcome (m .arities) (h .diagram))
+call m aReduce h = heldWith (h .steps) (reduceAnswer (m .arities) (h .diagram))
+
+-- an accepted call replaces the value diagram and k; a refused one leaves both
+abbrev pub taken : Held → Outcome Held → Held
+taken h (ok g) = g
+taken h (refused r) = h
 
 unfoldable pub runFrom : Model → List Call → Held → Held
 unfolding call
 runFrom m [] h = h
-runFrom m (c ∷ l) h = runFrom m l (call m c h)
+runFrom m (c ∷ l) h = runFrom m l (taken h (call m c h))
 
 -- the value diagram starts as the reward read, k as 0
 unfoldable pub begin : Model → Held

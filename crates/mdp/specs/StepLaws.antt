@@ -1,5 +1,5 @@
 -- The laws of the definitions, one for each case, as code meets them.
-use mathlib.Core.Path.{_≡_, refl, ap}
+use mathlib.Core.Path.{_≡_, refl, sym, ap}
 use mathlib.Core.Bool.{Bool, true, false, _||_, cond}
 use mathlib.Core.List.{List, [], _∷_}
 use Prim.Native.Nat.{ℕ, suc, _+_, _-_, _^_, _≤_, _<_}
@@ -8,7 +8,7 @@ use lib.Dec.{ltb, eqb}
 use borrow.Author.Tests.{ltb-false, eqb-false}
 use Rattle.refusal.specs.declared.Refusal.{Refusal}
 use Rattle.refusal.specs.declared.Refusal.the-variants.{Scale}
-use Rattle.refusal.specs.Outcome.{ok, refused, andThen}
+use Rattle.refusal.specs.Outcome.{Outcome, ok, refused, andThen}
 use Rattle.basics.specs.Tests.{Flag, isTrue, isFalse, flag}
 use Rattle.basics.specs.Members.{clash}
 use Rattle.label.specs.Limits.{firstParameter, parameterCount}
@@ -32,7 +32,7 @@ use Rattle.cutting.specs.declared.Cut.the-variants.{Done as CutDone, Refused as
 use Rattle.cutting.specs.Cut.{cutDiagram, isTrueEdge, diagramAnswer as cutAnswer}
 use Rattle.mdp.specs.Model.{Variant, Action, Model, scale}
 use Rattle.mdp.specs.Backup.{combined, variantsSum, actionsBest, rowOfCalls, highestScale, mostSteps, scaleEnds, backup}
-use Rattle.mdp.specs.Runs.{aBackup, Held, cutOutcome, taken, call}
+use Rattle.mdp.specs.Runs.{Held, cutOutcome, heldWith}
 use Rattle.mdp.specs.CallLaws.{each-within}
 
 -- ===== Combination and freeing =====
@@ -111,7 +111,9 @@ module _ (ar : List ℕ) (d : Diagram) where
   unfolding cutOutcome
   cut-refused r h = rw h
 
-module _ (m : Model) where
-  pub call-backup : (h : Held) → call m aBackup h ≡ taken h (backup m (h .steps) (h .diagram)) (suc (h .steps))
-  unfolding call
-  call-backup h = refl
+-- what a call gives, read back
+pub held-with : (k : ℕ) (o : Outcome Diagram) {h : Held} → heldWith k o ≡ ok h → (o ≡ ok (h .diagram)) × (h .steps ≡ k)
+held-with k (ok d) {h} e =
+    let q : _≡_ {A = Held} (record { diagram = d; steps = k }) h = cc in
+    (ap (λ (g : Held). ok (g .diagram)) q, sym (ap (λ (g : Held). g .steps) q))
+held-with k (refused r) e = let z : _≡_ {A = ℕ} 0 1 = cc in absurd (omega arith)

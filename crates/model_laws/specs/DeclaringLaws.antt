@@ -16,9 +16,8 @@ use Rattle.refusal.specs.Outcome.{ok, Accepted}
 use Rattle.refusal.specs.OutcomeLaws.{accepted-ok, accepted-cond}
 use Rattle.mdp.specs.Model.{Action, GoodAction, mostTotal, mostDenominator, mostActions}
 use Rattle.session.specs.declared.Part.the-variants.{Model as ModelPart}
-use Rattle.session.specs.Session.{Names, Session}
-use Rattle.session.specs.Declaring.{isDeclared, constantLine, isTotal, totalLine, isDiscount, discountLine, repeated, actionLine}
-use Rattle.session.specs.Replies.{withNames, withTotal, withDiscount, withAction}
+use Rattle.session.specs.Session.{Names, Session, withNames}
+use Rattle.session.specs.Declaring.{isDeclared, constantLine, isTotal, totalLine, withTotal, isDiscount, discountLine, withDiscount, repeated, actionLine, withAction}
 use Rattle.session.specs.Good.{GoodTables, GoodParts, GoodSession}
 use Rattle.model_laws.specs.SessionLaws.{while-model, parts-with}
 use Rattle.model_laws.specs.ActionLaws.{length-more, every-more, last-more, variants-more}

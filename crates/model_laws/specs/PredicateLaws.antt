@@ -14,8 +14,7 @@ use Rattle.refusal.specs.Outcome.{ok, Accepted}
 use Rattle.refusal.specs.OutcomeLaws.{accepted-ok, accepted-cond}
 use Rattle.session.specs.declared.Part.the-variants.{Model as ModelPart}
 use Rattle.session.specs.Session.{Session}
-use Rattle.session.specs.Declaring.{isDeclared, Vocabulary, predicateLine}
-use Rattle.session.specs.Replies.{withVocabulary}
+use Rattle.session.specs.Declaring.{isDeclared, Vocabulary, predicateLine, withVocabulary}
 use Rattle.session.specs.Good.{GoodTables, GoodSession}
 use Rattle.model_laws.specs.SessionLaws.{while-model, parts-with}
 use Rattle.model_laws.specs.ActionLaws.{length-more}

@@ -29,9 +29,9 @@ use Rattle.reading.specs.OutcomeLaws.{apart, passed}
 use Rattle.reading.specs.Head.{openedNumber, headNumber, headArguments}
 use Rattle.build.specs.Machine.{built}
 use Rattle.session.specs.Session.{Names, Session}
+use Rattle.session.specs.Declaring.{withAction}
 use Rattle.session.specs.ModelLines.{mostModelRows, namesFor, rowsWith, withReward, rewardRead, rewardLine, addVariant, noTruths, withVariant, weightRead, variantLine}
 use Rattle.session.specs.ModelLines.{withTruthAt, lastTruths, lastVariant, truthsOfLast, truthsNow, isSome, withTruth, truthRead, becomesLine}
-use Rattle.session.specs.Replies.{withAction}
 use Rattle.session.specs.Good.{LastAction, GoodSession}
 use Rattle.model_laws.specs.ModelRows.{rowsIn, truthRows, variantRows, actionRows, modelRows, Counted}
 use Rattle.model_laws.specs.ActionLaws.{sum-more}

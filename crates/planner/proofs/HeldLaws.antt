@@ -5,7 +5,6 @@ use mathlib.Core.List.{List, _++_}
 use Prim.Native.Nat.{ℕ, suc, _+_, _*_, _/_, _^_, _≤_}
 use native.Mathlib.Omega.{arith}
 use native.Mathlib.Nat.{pow-zero}
-use native.Mathlib.Numerals.{add-one}
 use lib.ListN.{length, take, drop, replicate, length-replicate, length-drop, length-append}
 use lib.Seq.{take-at, take-all, length-take-le}
 use lib.Dec.{ltb}
@@ -19,7 +18,7 @@ use Rattle.diagram.specs.Diagram.{Diagram}
 use Rattle.diagram.specs.Rows.{rows}
 use Rattle.diagram.specs.RowLists.{rowTree}
 use Rattle.diagram.specs.Words.{isListing}
-use Rattle.diagram.specs.Listing.{listing, diagramOf, Good}
+use Rattle.diagram.specs.Listing.{diagramOf, Good}
 use Rattle.diagram.specs.Variables.{isPlain}
 use Rattle.diagram.specs.ListingValid.{listing-is-valid}
 use Rattle.diagram.specs.Listings.{is-listing-good}
@@ -34,19 +33,19 @@ use Rattle.cutting.specs.ReduceLaws.{cut-good}
 use Rattle.cut.specs.Calls.{Cuttable}
 use Rattle.mdp.specs.Model.{Model, scale}
 use Rattle.mdp.specs.Backup.{backup}
-use Rattle.mdp.specs.Runs.{aBackup, Held as Value, leaves, cutOutcome, taken, call, begin}
-use Rattle.mdp.specs.StepLaws.{cut-done, cut-refused, call-backup}
+use Rattle.mdp.specs.Runs.{Held as Value, leaves, cutOutcome, begin}
+use Rattle.mdp.specs.StepLaws.{cut-done}
 use Rattle.model.specs.declared.Head.{Head}
 use Rattle.model.specs.Layout.{rewardWords, modelOf, Laid}
 use Rattle.steps.specs.declared.Step.the-variants.{Rows}
 use Rattle.planner.specs.declared.Backed.{Backed}
-use Rattle.planner.specs.declared.Backed.the-variants.{Done}
+use Rattle.planner.specs.declared.Backed.the-variants.{Done, Refused}
 use Rattle.planner.specs.declared.Held.{Held}
 use Rattle.steps.specs.Steps.{stepAs, Result, Wrote}
 use Rattle.planner.specs.Backed.{Powered, backedAs, BackedUp}
 use Rattle.planner.specs.Tasks.{Standing}
-use Rattle.planner.specs.Run.{heldIn, Holds, Room, Callable, ReplaceTask, Replaced, Takeable, Taken}
-use Rattle.steps.specs.GivenLaws.{listing-result, wrote-given, result-few, fold-there, fold-given}
+use Rattle.planner.specs.Run.{Holds, Room, Callable, ReplaceTask, Takeable, Taken}
+use Rattle.steps.specs.GivenLaws.{wrote-given, result-few, fold-there, fold-given}
 
 -- two held values are equal by their parts
 same-held : {d e : Diagram} {j k : ℕ} → d ≡ e → j ≡ k → _≡_ {A = Value} (record { diagram = d; steps = j }) (record { diagram = e; steps = k })
@@ -63,27 +62,24 @@ pub callable-powered : {ar listings table : List ℕ} {n : Head} → Laid ar lis
 unfolding modelOf scale
 callable-powered t c = record { steps = c .steps; is = c .power }
 
-module _ {ar : List ℕ} {m : Model} {h : Held} {value : List ℕ} (c : Callable ar m h value) {r : Backed} {value′ : List ℕ}
-    (b : BackedUp ar m (h .steps) (diagramOf (take (h .rows * 3) value)) r value value′) where
-  abbrev D : Diagram
-  D = diagramOf (take (h .rows * 3) value)
+-- its answer, read back
+backed : (power : ℕ) (o : Outcome Diagram) {n p : ℕ} → backedAs power o ≡ Done n p → (Rows n ≡ stepAs o) × (power ≡ p)
+backed power (ok d) e = (ap Rows (cc), cc)
+backed power (refused x) e = let z : _≡_ {A = ℕ} 0 1 = cc in absurd (omega arith)
 
-  backed : (o : Outcome Diagram) (n p : ℕ) → backedAs (scale m ^ suc (h .steps)) o ≡ Done n p → {A : Type 0}
-      → ((d : Diagram) → o ≡ ok d → length (rows d) ≡ n → scale m ^ suc (h .steps) ≡ p → A) → A
-  backed (ok d) n p e f = f d refl (cc) (cc)
-  backed (refused x) n p e f = let z : _≡_ {A = ℕ} 0 1 = cc in absurd (omega arith)
+stopped : (power : ℕ) (o : Outcome Diagram) {x : Refusal} → backedAs power o ≡ Refused x → o ≡ refused x
+stopped power (ok d) e = let z : _≡_ {A = ℕ} 0 1 = cc in absurd (omega arith)
+stopped power (refused y) e = ap refused (cc)
 
-  pub backup-holds : {n p : ℕ} → r ≡ Done n p → Holds ar m (call m aBackup (heldIn h value)) (record { rows = n; steps = h .steps + 1; power = p }) value′
-  backup-holds {n} {p} e = backed (backup m (h .steps) D) n p (sym (b .answer) ∙ e) (λ d q l s.
-      let u : value′ ≡ listing d ++ drop (length (listing d)) value = b .words ∙ ap (λ (o : Outcome Diagram). writtenAs o value) q in
-      let x : Result ar (ok d) n value′ = subst (Result ar (ok d) n) (sym u) (listing-result ar d (drop (length (listing d)) value) n (b .good .given d q) l) in
-      let y : d ≡ diagramOf (take (n * 3) value′) = let z = x .is in cc in
-      record {
-        listing = x .listing;
-        room = x .room;
-        is = same-held (sym y) (add-one (h .steps)) ∙ sym (call-backup m (heldIn h value) ∙ ap (λ (o : Outcome Diagram). taken (heldIn h value) o (suc (h .steps))) q);
-        power = sym s ∙ ap (λ (k : ℕ). scale m ^ k) (sym (add-one (h .steps)));
-      })
+module _ {ar : List ℕ} {m : Model} {k : ℕ} {d : Diagram} {r : Backed} {value value′ : List ℕ} (b : BackedUp ar m k d r value value′) where
+  pub backup-result : {n p : ℕ} → r ≡ Done n p → Result ar (backup m k d) n value′
+  backup-result {n} e = wrote-given (record { answer = backed (scale m ^ suc k) (backup m k d) (sym (b .answer) ∙ e) .0; words = b .words; good = b .good }) .result n refl
+
+  pub backup-refused : {x : Refusal} → r ≡ Refused x → backup m k d ≡ refused x
+  backup-refused e = stopped (scale m ^ suc k) (backup m k d) (sym (b .answer) ∙ e)
+
+  pub backup-power : {n p : ℕ} → r ≡ Done n p → p ≡ scale m ^ suc k
+  backup-power e = sym (backed (scale m ^ suc k) (backup m k d) (sym (b .answer) ∙ e) .1)
 
 -- ===== A value replaced by what a call gives, k staying =====
 
@@ -91,32 +87,13 @@ module _ {ar : List ℕ} {h : Held} {value work : List ℕ} (t : ReplaceTask ar 
   pub replace-long : h .rows * 3 ≡ length (take (h .rows * 3) value)
   replace-long = sym (length-take-le (h .rows * 3) value (t .room))
 
-  pub replace-stays : {o : Outcome Diagram} {x : Refusal} → o ≡ refused x → Replaced ar h value o h value
-  replace-stays e = record {
-    listing = t .listing;
-    room = t .room;
-    is = sym (ap (λ (o : Outcome Diagram). taken (heldIn h value) o (h .steps)) e);
-    steps = refl;
-    power = refl;
-  }
-
   module _ {o : Outcome Diagram} {n : ℕ} {out out′ : List ℕ} (w : Wrote ar o (Rows n) out out′) where
-    pub replace-there : n * 3 ≤ length out′
-    replace-there = fold-there w refl
+    -- its rows are there to be copied, and there is room for them
+    pub replace-copies : (n * 3 ≤ length out′) × (n * 3 ≤ length value)
+    replace-copies = (fold-there w refl, omega (arith, result-few (wrote-given w .result n refl), t .value-room))
 
-    pub replace-room : n * 3 ≤ length value
-    replace-room = omega (arith, result-few (wrote-given w .result n refl), t .value-room)
-
-    pub replace-holds : {value′ : List ℕ} → value′ ≡ take (n * 3) out′ ++ drop (n * 3) value → Replaced ar h value o (record { rows = n; steps = h .steps; power = h .power }) value′
-    replace-holds {value′} u =
-        let x : Result ar o n value′ = fold-given w refl value u .result n refl in
-        record {
-          listing = x .listing;
-          room = x .room;
-          is = sym (ap (λ (q : Outcome Diagram). taken (heldIn h value) q (h .steps)) (x .is));
-          steps = refl;
-          power = refl;
-        }
+    pub replace-result : {value′ : List ℕ} → value′ ≡ take (n * 3) out′ ++ drop (n * 3) value → Result ar o n value′
+    replace-result u = fold-given w refl value u .result n refl
 
 -- ===== A cut =====
 
@@ -160,9 +137,6 @@ module _ {ar : List ℕ} {h : Held} {value work : List ℕ} (t : ReplaceTask ar 
   W = diagramOf (take (h .rows * 3) value)
 
   module _ {q : Cut} (a : q ≡ diagramAnswer ar (diagramOf (take (h .rows * 3) value))) where
-    pub cut-stays : {x : Refusal} → q ≡ NotCut x → Replaced ar h value (cutOutcome ar W) h value
-    cut-stays {x} e = replace-stays t (cut-refused ar W x (sym a ∙ e))
-
     pub cut-wrote : (out : List ℕ) {out′ : List ℕ} → out′ ≡ answerBuffer ar (take (h .rows * 3) value) out q → {k : ℕ} {e : Edge} {n : ℕ} → q ≡ CutDone k e n
         → Wrote ar (cutOutcome ar W) (Rows n) out out′
     unfolding answerBuffer written

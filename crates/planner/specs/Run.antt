@@ -4,9 +4,7 @@ use mathlib.Core.Bool.{true}
 use mathlib.Core.List.{List}
 use Prim.Native.Nat.{ℕ, _+_, _*_, _/_, _^_, _≤_}
 use lib.ListN.{length, take}
-use Rattle.refusal.specs.Outcome.{Outcome}
 use Rattle.diagram.specs.Sizes.{resultWords, spaceWords}
-use Rattle.diagram.specs.Diagram.{Diagram}
 use Rattle.diagram.specs.Words.{isListing}
 use Rattle.diagram.specs.Listing.{diagramOf}
 use Rattle.state.specs.State.{meaning}
@@ -48,14 +46,6 @@ pub record ReplaceTask (ar : List ℕ) (h : Held) (value work : List ℕ) : Type
   pub room : h .rows * 3 ≤ length value
   pub value-room : resultWords ≤ length value
   pub work-room : spaceWords ≤ length work
-
--- what it leaves, by what it gives: k and S^k stay
-pub record Replaced (ar : List ℕ) (h : Held) (value : List ℕ) (o : Outcome Diagram) (h′ : Held) (value′ : List ℕ) : Type 0 where
-  pub listing : isListing ar (take (h′ .rows * 3) value′) ≡ true
-  pub room : h′ .rows * 3 ≤ length value′
-  pub is : heldIn h′ value′ ≡ mdp.taken (heldIn h value) o (h .steps)
-  pub steps : h′ .steps ≡ h .steps
-  pub power : h′ .power ≡ h .power
 
 -- the reward's listing is within the listings, and there is room for it
 pub record Takeable (listings : List ℕ) (h : Head) (value : List ℕ) : Type 0 where

@@ -1,15 +1,14 @@
 -- Laws of (reduce).
-use mathlib.Core.Path.{_≡_, refl, sym, ap, ap₂, subst, _∙_}
+use mathlib.Core.Path.{_≡_, refl, sym, ap, subst, _∙_}
 use mathlib.Core.List.{List}
 use Prim.Native.Nat.{ℕ, _*_, _≤_}
 use native.Mathlib.Omega.{arith}
 use lib.ListN.{length, take, replicate, length-replicate}
 use Rattle.refusal.specs.declared.Refusal.{Refusal}
-use Rattle.refusal.specs.Outcome.{Outcome, ok, refused, andThen, Accepted}
+use Rattle.refusal.specs.Outcome.{Outcome, ok, refused, Accepted}
 use Rattle.diagram.specs.Sizes.{resultWords}
 use Rattle.diagram.specs.Diagram.{Diagram}
-use Rattle.diagram.specs.Rows.{rows}
-use Rattle.diagram.specs.Listing.{listing, diagramOf, Good}
+use Rattle.diagram.specs.Listing.{diagramOf, Good}
 use Rattle.diagram.specs.Listings.{is-listing-good}
 use Rattle.regression.specs.RegressCall.{writtenAs}
 use Rattle.cutting.specs.Cut.{written}
@@ -18,22 +17,20 @@ use Rattle.reduction.specs.declared.Reduced.the-variants.{Done, Refused}
 use Rattle.reduction.specs.Reduction.{reduceAnswer, answerOf, bufferOf}
 use Rattle.reduction.specs.ReductionLaws.{answered, reduced-listed}
 use Rattle.reduce.specs.Winning.{Reducible, Answered}
-use Rattle.mdp.specs.Runs.{Held as Value, taken}
+use Rattle.mdp.specs.Runs.{heldWith, call}
 use Rattle.answers.specs.declared.Answer.the-variants as A
 use Rattle.text.specs.declared.Kind.the-variants as K
-use Rattle.session.specs.Session.{Session}
-use Rattle.session.specs.Running.{withHeld, reduceLine}
-use Rattle.session.specs.Replies.{Reply, reduceSays, done}
+use Rattle.session.specs.Running.{reduceIs}
+use Rattle.session.specs.Replies.{callSays, done, wordsOf}
 use Rattle.steps.specs.declared.Step.the-variants.{Rows}
-use Rattle.steps.specs.Steps.{stepAs, Wrote}
+use Rattle.steps.specs.Steps.{stepAs, Result, Wrote}
+use Rattle.steps.specs.GivenLaws.{result-count}
 use Rattle.planner.specs.declared.Held.{Held}
-use Rattle.planner.specs.Run.{heldIn, ReplaceTask, Replaced}
+use Rattle.planner.specs.Run.{ReplaceTask}
 use Rattle.memory.specs.declared.Numbers.{Numbers}
 use Rattle.memory.specs.Memory.{Memory, sessionOf, Ready, Answers}
-use Rattle.memory.specs.CarriedLaws.{carried-same, carried-run}
-use Rattle.memory.specs.RunLaws.{in-run}
-use Rattle.run_lines.specs.Lines.{runningWith, ReduceAnswered}
-use Rattle.run_lines.proofs.HoldLaws.{withValue, replaced-stored}
+use Rattle.run_lines.specs.Lines.{ReduceAnswered}
+use Rattle.run_lines.proofs.HoldLaws.{withValue, call-refused, leaving, replace-answers}
 
 -- ===== The call =====
 
@@ -69,63 +66,30 @@ module _ {ar : List ℕ} {h : Held} {value work : List ℕ} (t : ReplaceTask ar 
       good = reduce-fits ar W (is-listing-good ar (take (h .rows * 3) value) (t .listing));
     }
 
--- ===== What the line is answered, by what a reduction gives =====
-
-module _ (σ : Session) (number : ℕ) (h : Value) where
-  abbrev line : Outcome Diagram → Reply
-  line o = reduceSays σ number (andThen o (λ d. ok (record { diagram = d; steps = h .steps })))
-
-  left-says : (o : Outcome Diagram) {m : ℕ} → Done m ≡ answerOf o → A.Reduce m ≡ line o .answer
-  left-says (ok d) e = ap A.Reduce (cc)
-  left-says (refused x) e = let z : _≡_ {A = ℕ} 0 1 = cc in absurd (omega arith)
-
-  left-session : (o : Outcome Diagram) {m : ℕ} → Done m ≡ answerOf o → withHeld σ (σ .part) (taken h o (h .steps)) ≡ line o .session
-  left-session (ok d) e = refl
-  left-session (refused x) e = let z : _≡_ {A = ℕ} 0 1 = cc in absurd (omega arith)
-
-  stays-says : (o : Outcome Diagram) {x : Refusal} → Refused x ≡ answerOf o → A.Refused x number ≡ line o .answer
-  stays-says (ok d) e = let z : _≡_ {A = ℕ} 0 1 = cc in absurd (omega arith)
-  stays-says (refused y) e = ap (λ (r : Refusal). A.Refused r number) (cc)
-
-  stays-session : (o : Outcome Diagram) {x : Refusal} → Refused x ≡ answerOf o → σ ≡ line o .session
-  stays-session (ok d) e = let z : _≡_ {A = ℕ} 0 1 = cc in absurd (omega arith)
-  stays-session (refused y) e = refl
-
 -- ===== The session behind it =====
 
-module _ {s : List ℕ} (number : ℕ) {n : Numbers} {w : Memory} (r : Ready K.Reduce s n w)
-    {q : Reduced} (a : q ≡ answerOf (reduceAnswer (w .arities) (diagramOf (take (n .held .rows * 3) (w .value))))) where
-  abbrev H : Value
-  H = heldIn (n .held) (w .value)
-
+module _ {s : List ℕ} (number : ℕ) {n : Numbers} {w : Memory} (r : Ready K.Reduce s n w) where
   abbrev O : Outcome Diagram
   O = reduceAnswer (w .arities) (diagramOf (take (n .held .rows * 3) (w .value)))
 
-  left-answers : {m : ℕ} → q ≡ Done m → {h : Held} {value : List ℕ} → Replaced (w .arities) (n .held) (w .value) O h value → length value ≡ length (w .value)
-      → Answers K.Reduce s number n w (record { numbers = runningWith n h; answer = A.Reduce m }) (withValue w value)
-  unfolding sessionOf done reduceLine
-  left-answers d {h} {value} c l =
-      let σ = sessionOf n w in
-      record {
-        answer = left-says σ number H O (sym d ∙ a);
-        session = ap₂ (withHeld σ) (sym (in-run refl r)) (c .is) ∙ left-session σ number H O (sym d ∙ a);
-        stored = replaced-stored refl r c l;
-        indexed = r .indexed;
-        carried = carried-run refl refl;
-      }
+  says : done (sessionOf n w) number K.Reduce (wordsOf K.Reduce s) ≡ callSays (sessionOf n w) number reduceIs (heldWith (n .held .steps) O)
+  unfolding sessionOf done call
+  says = refl
 
-  stays-answers : {x : Refusal} → q ≡ Refused x → Answers K.Reduce s number n w (record { numbers = n; answer = A.Refused x number }) w
-  unfolding sessionOf done reduceLine
-  stays-answers d =
-      let σ = sessionOf n w in
-      record { answer = stays-says σ number H O (sym d ∙ a); session = stays-session σ number H O (sym d ∙ a); stored = r .stored; indexed = r .indexed; carried = carried-same n w }
+  left-answers : {m : ℕ} {value : List ℕ} → Result (w .arities) O m value → length value ≡ length (w .value)
+      → Answers K.Reduce s number n w (record { numbers = leaving n m; answer = A.Reduce m }) (withValue w value)
+  left-answers x l = replace-answers refl r reduceIs O says x l (ap A.Reduce (sym (result-count x)))
 
-module _ {number : ℕ} {n : Numbers} {ar value : List ℕ} {q : Reduced} (a : q ≡ answerOf (reduceAnswer ar (diagramOf (take (n .held .rows * 3) value)))) where
-  pub reduce-left : {m : ℕ} → q ≡ Done m → {h : Held} {value′ : List ℕ} → Replaced ar (n .held) value (reduceAnswer ar (diagramOf (take (n .held .rows * 3) value))) h value′
-      → length value′ ≡ length value → {n′ : Numbers} → n′ ≡ runningWith n h → ReduceAnswered number n ar value (record { numbers = n′; answer = A.Reduce m }) value′
-  reduce-left {m} d {h} {value′} c l {n′} p = subst (λ (x : Numbers). ReduceAnswered number n ar value (record { numbers = x; answer = A.Reduce m }) value′) (sym p) (record {
-    says = λ s names listings table state r. left-answers number r a d c l;
+  stays-answers : {x : Refusal} → O ≡ refused x → Answers K.Reduce s number n w (record { numbers = n; answer = A.Refused x number }) w
+  stays-answers e = call-refused refl r reduceIs (n .held .steps) O says e
+
+module _ {number : ℕ} {n : Numbers} {ar value : List ℕ} where
+  pub reduce-left : {m : ℕ} {value′ : List ℕ} → Result ar (reduceAnswer ar (diagramOf (take (n .held .rows * 3) value))) m value′ → length value′ ≡ length value
+      → {n′ : Numbers} → n′ ≡ leaving n m → ReduceAnswered number n ar value (record { numbers = n′; answer = A.Reduce m }) value′
+  reduce-left {m} {value′} x l {n′} p = subst (λ (i : Numbers). ReduceAnswered number n ar value (record { numbers = i; answer = A.Reduce m }) value′) (sym p) (record {
+    says = λ s names listings table state r. left-answers number r x l;
   })
 
-  pub reduce-refused : {x : Refusal} → q ≡ Refused x → ReduceAnswered number n ar value (record { numbers = n; answer = A.Refused x number }) value
-  reduce-refused d = record { says = λ s names listings table state r. stays-answers number r a d }
+  pub reduce-stays : {q : Reduced} → q ≡ answerOf (reduceAnswer ar (diagramOf (take (n .held .rows * 3) value))) → {x : Refusal} → q ≡ Refused x
+      → ReduceAnswered number n ar value (record { numbers = n; answer = A.Refused x number }) value
+  reduce-stays a d = record { says = λ s names listings table state r. stays-answers number r (refused-as _ (sym d ∙ a)) }

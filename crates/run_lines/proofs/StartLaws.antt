@@ -11,9 +11,9 @@ use Rattle.mdp.specs.Runs.{begin}
 use Rattle.answers.specs.declared.Answer.the-variants as A
 use Rattle.text.specs.declared.Kind.the-variants as K
 use Rattle.session.specs.declared.Part.the-variants.{Run}
-use Rattle.session.specs.Session.{Session}
+use Rattle.session.specs.Session.{Session, withHeld}
 use Rattle.session.specs.ModelLines.{weighed}
-use Rattle.session.specs.Running.{withHeld, startLine}
+use Rattle.session.specs.Running.{startLine}
 use Rattle.session.specs.Replies.{Reply, quietly, done}
 use Rattle.model.specs.Layout.{modelOf}
 use Rattle.planner.specs.declared.Held.{Held}

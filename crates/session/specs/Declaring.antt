@@ -1,5 +1,5 @@
 -- Lines that declare names and numbers: their checks in order, and what an accepted one does (document 01, sections 'Text' and 'Refusals by trade word').
-use mathlib.Core.Bool.{Bool, false, not, _||_, _&&_}
+use mathlib.Core.Bool.{Bool, true, false, not, _||_, _&&_}
 use mathlib.Core.List.{List, [], _∷_, _++_}
 use Prim.Native.Nat.{ℕ, suc}
 use lib.ListN.{length, set}
@@ -10,7 +10,7 @@ use Rattle.words.specs.declared.Key.{Key}
 use Rattle.names.specs.Keys.{isAmong}
 use Rattle.refusal.specs.Outcome.{Outcome, ok}
 use Rattle.mdp.specs.Model.{mostTotal, mostDenominator, mostActions}
-use Rattle.session.specs.Session.{Names, refuseIf}
+use Rattle.session.specs.Session.{Names, Session, withActions, withModel, withNames, refuseIf}
 
 -- constants and predicates share one set of names
 unfoldable pub isDeclared : Names → Key → Bool
@@ -56,6 +56,17 @@ predicateLine v k a =
       arities = set (v .arities) (suc (length (v .names .predicates))) a;
     }))))
 
+unfoldable pub withVocabulary : Session → Vocabulary → Session
+withVocabulary σ v =
+    withNames (withModel σ (σ .singles) (record {
+      arities = v .arities;
+      total = σ .model .total;
+      numerator = σ .model .numerator;
+      denominator = σ .model .denominator;
+      reward = σ .model .reward;
+      actions = σ .model .actions;
+    })) (v .names)
+
 -- (total W): 1 to 1,000,000
 unfoldable pub isTotal : ℕ → Bool
 isTotal w = leb 1 w && leb w mostTotal
@@ -64,6 +75,17 @@ unfoldable pub totalLine : ℕ → Outcome ℕ
 unfolding isTotal
 totalLine w = refuseIf (not (isTotal w)) Range (ok w)
 
+unfoldable pub withTotal : Session → ℕ → Session
+withTotal σ w =
+    withModel σ (record { total = true; discount = σ .singles .discount; reward = σ .singles .reward }) (record {
+      arities = σ .model .arities;
+      total = w;
+      numerator = σ .model .numerator;
+      denominator = σ .model .denominator;
+      reward = σ .model .reward;
+      actions = σ .model .actions;
+    })
+
 -- (discount G D): D 1 to 1,000,000, G 0 to D
 unfoldable pub isDiscount : ℕ → ℕ → Bool
 isDiscount g d = leb 1 d && (leb d mostDenominator && leb g d)
@@ -71,6 +93,17 @@ isDiscount g d = leb 1 d && (leb d mostDenominator && leb g d)
 unfoldable pub discountLine : ℕ → ℕ → Outcome (ℕ × ℕ)
 unfolding isDiscount
 discountLine g d = refuseIf (not (isDiscount g d)) Range (ok (g, d))
+
+unfoldable pub withDiscount : Session → ℕ × ℕ → Session
+withDiscount σ q =
+    withModel σ (record { total = σ .singles .total; discount = true; reward = σ .singles .reward }) (record {
+      arities = σ .model .arities;
+      total = σ .model .total;
+      numerator = q .0;
+      denominator = q .1;
+      reward = σ .model .reward;
+      actions = σ .model .actions;
+    })
 
 -- one of the names ks is among those before it, the names vs first
 unfoldable pub repeated : List Key → List Key → Bool
@@ -92,3 +125,8 @@ actionLine n k ps =
       variants = [];
       earlier = n .earlier ++ n .variants;
     })))
+
+-- one action more: it has the parameters that the line names and no variant
+unfoldable pub withAction : Session → Names → Session
+withAction σ n =
+    withNames (withModel σ (σ .singles) (withActions (σ .model) (σ .model .actions ++ (record { count = length (n .parameters); variants = [] } ∷ [])))) n

@@ -5,6 +5,7 @@
 --   Singles, Live == which single forms were accepted; the state as it is lent: objects, constants placed, facts; count and total of (did ..) lines
 --   Session, opening == part, names, single forms, model, model rows, state, value diagram and k; before the first line
 --   defaultTotal, defaultNumerator, defaultDenominator == W is 100 and the discount 19 20 where no line gives them (document 02, L7)
+--   withActions, withModel, withNames, withRows, withLive, withHeld == a model with other actions; a session with one part new
 --   refuseIf == refused if true, else what follows
 --
 -- Definitions: where a line may stand
@@ -15,9 +16,9 @@
 --
 -- Definitions: lines of the model
 --   isDeclared, constantLine == (constant n)
---   Vocabulary, predicateLine == (predicate n arity), with the arity list
---   isTotal, totalLine, isDiscount, discountLine == (total W), (discount G D)
---   repeated, actionLine == (action n !p ..)
+--   Vocabulary, predicateLine, withVocabulary == (predicate n arity), with the arity list
+--   isTotal, totalLine, withTotal, isDiscount, discountLine, withDiscount == (total W), (discount G D)
+--   repeated, actionLine, withAction == (action n !p ..)
 --   mostModelRows, rowsWith == all model listings together have 2,048 rows
 --   namesFor == the names that a diagram of the line may have
 --   rewardRead, withReward, rewardLine == (reward DIAGRAM)
@@ -31,9 +32,7 @@
 --   placed, isLine == (is c o): a constant's object. In Replies placed is what follows once a line's place is judged
 --   withFact, begunAgain, sameWord, rowIs, isFact, factLine, predicateOf, trueLine == (true p o ..)
 --   stateIn, valueRead == (value): the state in hand, and the value diagram's number in it, or 15
---   withHeld, backupLine == (backup)
---   CutDone, cutTo, cutLine == (cut): the value diagram and k behind it, the row and the edge that went, the rows left
---   reduceLine == (reduce) (document 02, L13)
+--   backupIs, cutIs, reduceIs == what an accepted (backup), (cut) or (reduce) is answered: k, rows; row, edge, rows left; rows (document 02, L13). Each is a call of mdp's run
 --   tablesIn, formRead == (text): the names declared; how many bytes the value has as a form, or 19 (document 02, L2)
 --   bestRead, noKey, bestIs == (best): the move, or what refuses it; the action's name and its objects (document 02, L9)
 --   variantNamesFrom, variantNames, didOf, replayIn, replayed, didTo, didLine == (did action variant object ..): names found, 2, 3, 2, 4, then what replay says (document 02, L10)
@@ -41,11 +40,10 @@
 --
 -- Definitions: replies
 --   Reply == the session behind a line, and what the line is answered
---   withModel, withNames, withLive, withVocabulary, withTotal, withDiscount, withAction == a session with one part new
 --   refusal, silent == a refused line leaves the session as it was; nothing is printed
 --   answered, quietly == an accepted line is answered by its outcome, a refused one leaves the session as it was; a line that prints nothing unless it is refused
---   valueSays, backupSays, cutSays, reduceSays, textSays, bestSays, countSays, didSays == value, k, S^k; k, rows; row, edge, rows; rows; the bytes of the
---       form; action and objects; objects and values; count and total
+--   valueSays, callSays, textSays, bestSays, countSays, didSays == value, k, S^k; a call of the run; the bytes of the form; action and objects; objects and
+--       values; count and total
 --   done == what each kind of line does and is answered, where it stands where it may
 --   replyTo, wordsOf, reply == 1, 5 or 20, then the line's own checks; a line in bytes, of which one of none passes (document 02, L1)
 --

@@ -26,7 +26,7 @@ use Rattle.reading.specs.Head.{headNumber, headArguments}
 use Rattle.build.specs.Machine.{built, builtClosed}
 use Rattle.mdp.specs.Model.{Variant, Action, mostVariants}
 use Rattle.mdp.specs.Backup.{combined}
-use Rattle.session.specs.Session.{Names, Session, refuseIf}
+use Rattle.session.specs.Session.{Names, Session, withActions, withModel, withNames, withRows, refuseIf}
 
 -- all model listings together have 2,048 rows
 abbrev pub mostModelRows : ℕ
@@ -50,22 +50,15 @@ rowsWith r d = r + length (rows d)
 -- ===== (reward DIAGRAM) =====
 
 unfoldable pub withReward : Session → Diagram → Session
-withReward σ d = record {
-  part = σ .part;
-  names = σ .names;
-  singles = record { total = σ .singles .total; discount = σ .singles .discount; reward = true };
-  model = record {
-    arities = σ .model .arities;
-    total = σ .model .total;
-    numerator = σ .model .numerator;
-    denominator = σ .model .denominator;
-    reward = d;
-    actions = σ .model .actions;
-  };
-  rows = rowsWith (σ .rows) d;
-  live = σ .live;
-  held = σ .held;
-}
+withReward σ d =
+    withRows (withModel σ (record { total = σ .singles .total; discount = σ .singles .discount; reward = true }) (record {
+      arities = σ .model .arities;
+      total = σ .model .total;
+      numerator = σ .model .numerator;
+      denominator = σ .model .denominator;
+      reward = d;
+      actions = σ .model .actions;
+    })) (rowsWith (σ .rows) d)
 
 -- its words, 8, then 10, 11, 9 at each row step, 9 for its result, closed up; last 9 for model rows, of which there are r so far
 unfoldable pub rewardRead : Names → List ℕ → ℕ → List Event → Outcome Diagram
@@ -92,29 +85,15 @@ abbrev pub noTruths : Truths
 noTruths p = none
 
 unfoldable pub withVariant : Session → Key → Diagram → Session
-withVariant σ k d = record {
-  part = σ .part;
-  names = record {
-    constants = σ .names .constants;
-    predicates = σ .names .predicates;
-    actions = σ .names .actions;
-    parameters = σ .names .parameters;
-    variants = σ .names .variants ++ (k ∷ []);
-    earlier = σ .names .earlier;
-  };
-  singles = σ .singles;
-  model = record {
-    arities = σ .model .arities;
-    total = σ .model .total;
-    numerator = σ .model .numerator;
-    denominator = σ .model .denominator;
-    reward = σ .model .reward;
-    actions = addVariant (σ .model .actions) (record { weight = d; truths = noTruths });
-  };
-  rows = rowsWith (σ .rows) d;
-  live = σ .live;
-  held = σ .held;
-}
+withVariant σ k d =
+    withRows (withNames (withModel σ (σ .singles) (withActions (σ .model) (addVariant (σ .model .actions) (record { weight = d; truths = noTruths })))) (record {
+      constants = σ .names .constants;
+      predicates = σ .names .predicates;
+      actions = σ .names .actions;
+      parameters = σ .names .parameters;
+      variants = σ .names .variants ++ (k ∷ []);
+      earlier = σ .names .earlier;
+    })) (rowsWith (σ .rows) d)
 
 -- 2 at its name; the weight's words; its diagram; last 9 for 8 variants and model rows
 unfoldable pub weightRead : Names → List ℕ → ℕ → Key → List Event → Outcome Diagram
@@ -163,22 +142,8 @@ isSome (some d) = true
 
 unfoldable pub withTruth : Session → ℕ → Diagram → Session
 unfolding withTruthAt
-withTruth σ p d = record {
-  part = σ .part;
-  names = σ .names;
-  singles = σ .singles;
-  model = record {
-    arities = σ .model .arities;
-    total = σ .model .total;
-    numerator = σ .model .numerator;
-    denominator = σ .model .denominator;
-    reward = σ .model .reward;
-    actions = lastVariant (σ .model .actions) (λ truths. withTruthAt truths p d);
-  };
-  rows = rowsWith (σ .rows) d;
-  live = σ .live;
-  held = σ .held;
-}
+withTruth σ p d =
+    withRows (withModel σ (σ .singles) (withActions (σ .model) (lastVariant (σ .model .actions) (λ truths. withTruthAt truths p d)))) (rowsWith (σ .rows) d)
 
 -- at the predicate's word 2 (undeclared, or it has one already), then 3; 2 at a repeated argument; the diagram's words, its arguments the only variables;
 -- its diagram; 7; last 9 for model rows

@@ -1,7 +1,7 @@
 -- What a line is answered, and the session behind it (document 01, sections 'Text', 'Refusals by trade word' and 'A run, whole'; document 02, L1, L2, L9, L10,
 -- L11 and L13).
 use mathlib.Core.Bool.{Bool, true, not, _&&_}
-use mathlib.Core.List.{List, [], _∷_, _++_}
+use mathlib.Core.List.{List, [], _∷_}
 use Prim.Native.Nat.{ℕ, _^_}
 use lib.ListN.{length, getD, drop}
 use lib.Dec.{leb, eqb}
@@ -10,8 +10,9 @@ use Rattle.refusal.specs.declared.Refusal.the-variants.{Form, Place, Missing}
 use Rattle.diagram.specs.Rows.{rows}
 use Rattle.diagram.specs.Words.{everyBelow}
 use Rattle.refusal.specs.Outcome.{Outcome, ok, refused}
-use Rattle.mdp.specs.Model.{Action, Model, scale}
-use Rattle.mdp.specs.Runs.{Held}
+use Rattle.cutting.specs.Cut.{diagramAnswer}
+use Rattle.mdp.specs.Model.{Action, scale}
+use Rattle.mdp.specs.Runs.{aBackup, aCut, aReduce, Held, call}
 use Rattle.text.specs.declared.Kind.{Kind}
 use Rattle.text.specs.declared.Kind.the-variants as K
 use Rattle.text.specs.LineForm.{lineKind}
@@ -26,12 +27,12 @@ use Rattle.answers.specs.declared.Answer.the-variants as A
 use Rattle.session.specs.declared.Rule.{Rule}
 use Rattle.session.specs.declared.Rule.the-variants as R
 use Rattle.session.specs.Place.{ruleOf}
-use Rattle.session.specs.Session.{Names, Singles, Live, Session, refuseIf}
-use Rattle.session.specs.Declaring.{Vocabulary, constantLine, predicateLine, totalLine, discountLine, actionLine}
+use Rattle.session.specs.Session.{Live, Session, withNames, withLive, withHeld, refuseIf}
+use Rattle.session.specs.Declaring.{constantLine, predicateLine, withVocabulary, totalLine, withTotal, discountLine, withDiscount, actionLine, withAction}
 use Rattle.session.specs.Facts.{objectsLine, isLine, trueLine}
 use Rattle.session.specs.ModelLines.{rewardLine, variantLine, becomesLine}
 use Rattle.session.specs.Replaying.{didLine}
-use Rattle.session.specs.Running.{withHeld, startLine, valueRead, backupLine, CutDone, cutLine, reduceLine, formRead, bestRead, bestIs, countRead}
+use Rattle.session.specs.Running.{startLine, valueRead, backupIs, cutIs, reduceIs, formRead, bestRead, bestIs, countRead}
 
 -- the session behind a line, and what the line is answered
 pub record Reply : Type 0 where
@@ -79,86 +80,6 @@ allowed σ R.WholeState = unless (not (isPlaced σ))
 allowed σ R.MoveState = refuseIf (not (isPlaced σ)) Missing (ok tt)
 allowed σ R.Constants = unless (not (eachPlaced (σ .live .placed) (length (σ .names .constants))))
 
--- ===== What an accepted line does =====
-
-abbrev pub withModel : Session → Singles → Model → Session
-withModel σ singles m = record {
-  part = σ .part;
-  names = σ .names;
-  singles = singles;
-  model = m;
-  rows = σ .rows;
-  live = σ .live;
-  held = σ .held;
-}
-
-abbrev pub withNames : Session → Names → Session
-withNames σ n = record {
-  part = σ .part;
-  names = n;
-  singles = σ .singles;
-  model = σ .model;
-  rows = σ .rows;
-  live = σ .live;
-  held = σ .held;
-}
-
-abbrev pub withLive : Session → Live → Session
-withLive σ l = record {
-  part = σ .part;
-  names = σ .names;
-  singles = σ .singles;
-  model = σ .model;
-  rows = σ .rows;
-  live = l;
-  held = σ .held;
-}
-
-unfoldable pub withVocabulary : Session → Vocabulary → Session
-withVocabulary σ v =
-    withNames (withModel σ (σ .singles) (record {
-      arities = v .arities;
-      total = σ .model .total;
-      numerator = σ .model .numerator;
-      denominator = σ .model .denominator;
-      reward = σ .model .reward;
-      actions = σ .model .actions;
-    })) (v .names)
-
-unfoldable pub withTotal : Session → ℕ → Session
-withTotal σ w =
-    withModel σ (record { total = true; discount = σ .singles .discount; reward = σ .singles .reward }) (record {
-      arities = σ .model .arities;
-      total = w;
-      numerator = σ .model .numerator;
-      denominator = σ .model .denominator;
-      reward = σ .model .reward;
-      actions = σ .model .actions;
-    })
-
-unfoldable pub withDiscount : Session → ℕ × ℕ → Session
-withDiscount σ q =
-    withModel σ (record { total = σ .singles .total; discount = true; reward = σ .singles .reward }) (record {
-      arities = σ .model .arities;
-      total = σ .model .total;
-      numerator = q .0;
-      denominator = q .1;
-      reward = σ .model .reward;
-      actions = σ .model .actions;
-    })
-
--- one action more: it has the parameters that the line names and no variant
-unfoldable pub withAction : Session → Names → Session
-withAction σ n =
-    withNames (withModel σ (σ .singles) (record {
-      arities = σ .model .arities;
-      total = σ .model .total;
-      numerator = σ .model .numerator;
-      denominator = σ .model .denominator;
-      reward = σ .model .reward;
-      actions = σ .model .actions ++ (record { count = length (n .parameters); variants = [] } ∷ []);
-    })) n
-
 -- ===== The answer =====
 
 abbrev pub refusal : Session → ℕ → Refusal → Reply
@@ -181,19 +102,9 @@ quietly σ number f o = answered σ number (λ a. silent (f a)) o
 abbrev pub valueSays : Session → ℕ → Outcome ℕ → Reply
 valueSays σ number o = answered σ number (λ v. record { session = σ; answer = A.Value v (σ .held .steps) (scale (σ .model) ^ σ .held .steps) }) o
 
--- k, rows
-abbrev pub backupSays : Session → ℕ → Outcome Held → Reply
-backupSays σ number o =
-    answered σ number (λ (h : Held). record { session = withHeld σ (σ .part) h; answer = A.Backup (h .steps) (length (rows (h .diagram))) }) o
-
--- row, edge, rows left
-abbrev pub cutSays : Session → ℕ → Outcome CutDone → Reply
-cutSays σ number o =
-    answered σ number (λ (x : CutDone). record { session = withHeld σ (σ .part) (x .held); answer = A.Cut (x .row) (x .edge) (x .left) }) o
-
--- rows
-abbrev pub reduceSays : Session → ℕ → Outcome Held → Reply
-reduceSays σ number o = answered σ number (λ (h : Held). record { session = withHeld σ (σ .part) h; answer = A.Reduce (length (rows (h .diagram))) }) o
+-- a call of the run: an accepted one replaces the value diagram and k
+abbrev pub callSays : Session → ℕ → (Held → Answer) → Outcome Held → Reply
+callSays σ number says o = answered σ number (λ h. record { session = withHeld σ (σ .part) h; answer = says h }) o
 
 -- the bytes of the value as a form
 abbrev pub textSays : Session → ℕ → Outcome ℕ → Reply
@@ -214,7 +125,7 @@ didSays σ number o = answered σ number (λ (l : Live). record { session = with
 -- the words es of a line of the kind that stands where it may
 unfoldable pub done : Session → ℕ → Kind → List Event → Reply
 unfolding constantLine predicateLine totalLine discountLine actionLine rewardLine variantLine becomesLine startLine objectsLine isLine trueLine
-    withVocabulary withTotal withDiscount withAction valueRead backupLine cutLine reduceLine formRead bestRead countRead didLine rows
+    withVocabulary withTotal withDiscount withAction valueRead call diagramAnswer formRead bestRead countRead didLine rows
 done σ number K.Constant es = quietly σ number (withNames σ) (constantLine (σ .names) (keyIn (wordAt es 0)))
 done σ number K.Predicate es =
     quietly σ number (withVocabulary σ) (predicateLine (record { names = σ .names; arities = σ .model .arities }) (keyIn (wordAt es 0)) (numberIn (wordAt es 1)))
@@ -230,10 +141,10 @@ done σ number K.Is es = quietly σ number (withLive σ) (isLine (σ .names) (σ
 done σ number K.True es =
     quietly σ number (withLive σ) (trueLine (σ .model .arities) (σ .names) (σ .live) (keyIn (wordAt es 0)) (numbersIn (drop 1 es)))
 done σ number K.Value es = valueSays σ number (valueRead (σ .model .arities) (σ .live) (σ .held .diagram))
-done σ number K.Backup es = backupSays σ number (backupLine (σ .model) (σ .held))
-done σ number K.Cut es = cutSays σ number (cutLine (σ .model .arities) (σ .held))
+done σ number K.Backup es = callSays σ number backupIs (call (σ .model) aBackup (σ .held))
+done σ number K.Cut es = callSays σ number (λ h. cutIs (diagramAnswer (σ .model .arities) (σ .held .diagram))) (call (σ .model) aCut (σ .held))
 done σ number K.Show es = record { session = σ; answer = A.Show (length (rows (σ .held .diagram))) }
-done σ number K.Reduce es = reduceSays σ number (reduceLine (σ .model .arities) (σ .held))
+done σ number K.Reduce es = callSays σ number reduceIs (call (σ .model) aReduce (σ .held))
 done σ number K.Text es = textSays σ number (formRead (σ .model .arities) (σ .names) (σ .held .diagram))
 done σ number K.Best es = bestSays σ number (bestRead (σ .model) (σ .live) (σ .held .diagram))
 done σ number K.Count es =

@@ -1,8 +1,7 @@
--- (start) and the lines of the run: what their operations answer, and what an accepted one does (document 01, sections 'Text', 'Backup' and 'Cut'; document 02, L2, L9,
--- L11 and L13).
+-- (start) and the lines of the run: what their operations answer (document 01, sections 'Text', 'Backup' and 'Cut'; document 02, L2, L9, L11 and L13).
 use mathlib.Core.Bool.{not, _&&_}
 use mathlib.Core.List.{List, []}
-use Prim.Native.Nat.{ℕ, suc}
+use Prim.Native.Nat.{ℕ}
 use lib.ListN.{length, getD}
 use lib.Dec.{leb}
 use Rattle.refusal.specs.declared.Refusal.the-variants.{Range, Valuations, Length}
@@ -13,14 +12,10 @@ use Rattle.state.specs.State.{State, meaning}
 use Rattle.state.specs.Lent.{stateOf, constantsBelow, mostObjects}
 use Rattle.minimum.specs.Number.{number}
 use Rattle.elimination.specs.Answer.{isTooLarge}
-use Rattle.refusal.specs.Outcome.{Outcome, ok, refused, andThen}
-use Rattle.cutting.specs.declared.Edge.{Edge}
+use Rattle.refusal.specs.Outcome.{Outcome, ok, andThen}
 use Rattle.cutting.specs.declared.Cut.{Cut}
 use Rattle.cutting.specs.declared.Cut.the-variants as C
-use Rattle.cutting.specs.Cut.{diagramAnswer, cutDiagram, isTrueEdge}
-use Rattle.reduction.specs.Reduction.{reduceAnswer}
 use Rattle.mdp.specs.Model.{Model}
-use Rattle.mdp.specs.Backup.{backup}
 use Rattle.mdp.specs.Runs.{Held, begin}
 use Rattle.best.specs.Moves.{Move}
 use Rattle.best.specs.Best.{bestAnswer}
@@ -29,22 +24,9 @@ use Rattle.words.specs.declared.Key.{Key}
 use Rattle.diagram_form.specs.Form.{Tables, tablesOf, formLength, isTooLong}
 use Rattle.answers.specs.declared.Answer.{Answer}
 use Rattle.answers.specs.declared.Answer.the-variants as A
-use Rattle.session.specs.declared.Part.{Part}
 use Rattle.session.specs.declared.Part.the-variants.{Run}
-use Rattle.session.specs.Session.{Names, Live, Session, refuseIf}
+use Rattle.session.specs.Session.{Names, Live, Session, withHeld, refuseIf}
 use Rattle.session.specs.ModelLines.{weighed}
-
--- the session with another value diagram and another k, in a part of the text
-abbrev pub withHeld : Session → Part → Held → Session
-withHeld σ part h = record {
-  part = part;
-  names = σ .names;
-  singles = σ .singles;
-  model = σ .model;
-  rows = σ .rows;
-  live = σ .live;
-  held = h;
-}
 
 -- ===== (start) =====
 
@@ -70,38 +52,20 @@ valueRead ar l d =
     refuseIf (isTooLarge ar (stateIn ar l) [] (listing d)) Valuations
     (ok (number (stateIn ar l) [] (meaning ar d)))
 
--- ===== (backup) =====
+-- ===== (backup), (cut) and (reduce), which are calls of the run =====
 
--- an accepted backup replaces the value diagram by its result and adds 1 to k
-unfoldable pub backupLine : Model → Held → Outcome Held
-unfolding backup
-backupLine m h = andThen (backup m (h .steps) (h .diagram)) (λ d. ok (record { diagram = d; steps = suc (h .steps) }))
+-- k, rows
+abbrev pub backupIs : Held → Answer
+backupIs h = A.Backup (h .steps) (length (rows (h .diagram)))
 
--- ===== (cut) =====
+-- row, edge, rows left. An accepted cut has an answer
+abbrev pub cutIs : Cut → Answer
+cutIs (C.Done k e n) = A.Cut k e n
+cutIs (C.Refused r) = A.Nothing
 
--- an accepted cut: the value diagram and k behind it; the row and the edge that went, and the rows left
-pub record CutDone : Type 0 where
-  pub held : Held
-  pub row : ℕ
-  pub edge : Edge
-  pub left : ℕ
-
--- it replaces the value diagram and leaves k
-abbrev pub cutTo : List ℕ → Held → Cut → Outcome CutDone
-cutTo ar h (C.Done k e n) =
-    ok (record { held = record { diagram = cutDiagram ar (h .diagram) k (isTrueEdge e); steps = h .steps }; row = k; edge = e; left = n })
-cutTo ar h (C.Refused r) = refused r
-
-unfoldable pub cutLine : List ℕ → Held → Outcome CutDone
-unfolding diagramAnswer cutDiagram
-cutLine ar h = cutTo ar h (diagramAnswer ar (h .diagram))
-
--- ===== (reduce) =====
-
--- "An accepted (reduce) replaces the value diagram by its result and leaves k": 17, 26, 27, 28
-unfoldable pub reduceLine : List ℕ → Held → Outcome Held
-unfolding reduceAnswer
-reduceLine ar h = andThen (reduceAnswer ar (h .diagram)) (λ d. ok (record { diagram = d; steps = h .steps }))
+-- rows
+abbrev pub reduceIs : Held → Answer
+reduceIs h = A.Reduce (length (rows (h .diagram)))
 
 -- ===== (text) =====
 

@@ -8,7 +8,7 @@ use Rattle.words.specs.declared.Key.{Key}
 use Rattle.label.specs.Limits.{constantCount, predicateCount, equalityArity}
 use Rattle.diagram.specs.Diagram.{leaf}
 use Rattle.refusal.specs.Outcome.{Outcome, refused}
-use Rattle.mdp.specs.Model.{Model}
+use Rattle.mdp.specs.Model.{Action, Model}
 use Rattle.mdp.specs.Runs.{Held}
 use Rattle.session.specs.declared.Part.{Part}
 use Rattle.session.specs.declared.Part.the-variants.{Model as ModelPart}
@@ -70,6 +70,76 @@ opening = record {
   rows = 0;
   live = record { objects = 0; placed = replicate constantCount 0; constants = replicate constantCount 0; facts = []; count = 0; total = 0 };
   held = record { diagram = leaf 0; steps = 0 };
+}
+
+-- ===== A session with one part new =====
+
+-- the model with other actions
+abbrev pub withActions : Model → List Action → Model
+withActions m l = record {
+  arities = m .arities;
+  total = m .total;
+  numerator = m .numerator;
+  denominator = m .denominator;
+  reward = m .reward;
+  actions = l;
+}
+
+abbrev pub withModel : Session → Singles → Model → Session
+withModel σ singles m = record {
+  part = σ .part;
+  names = σ .names;
+  singles = singles;
+  model = m;
+  rows = σ .rows;
+  live = σ .live;
+  held = σ .held;
+}
+
+abbrev pub withNames : Session → Names → Session
+withNames σ n = record {
+  part = σ .part;
+  names = n;
+  singles = σ .singles;
+  model = σ .model;
+  rows = σ .rows;
+  live = σ .live;
+  held = σ .held;
+}
+
+-- the rows of all model listings
+abbrev pub withRows : Session → ℕ → Session
+withRows σ r = record {
+  part = σ .part;
+  names = σ .names;
+  singles = σ .singles;
+  model = σ .model;
+  rows = r;
+  live = σ .live;
+  held = σ .held;
+}
+
+abbrev pub withLive : Session → Live → Session
+withLive σ l = record {
+  part = σ .part;
+  names = σ .names;
+  singles = σ .singles;
+  model = σ .model;
+  rows = σ .rows;
+  live = l;
+  held = σ .held;
+}
+
+-- another value diagram and another k, in a part of the text
+abbrev pub withHeld : Session → Part → Held → Session
+withHeld σ part h = record {
+  part = part;
+  names = σ .names;
+  singles = σ .singles;
+  model = σ .model;
+  rows = σ .rows;
+  live = σ .live;
+  held = h;
 }
 
 -- refused with r if b, else what follows

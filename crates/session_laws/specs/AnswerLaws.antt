@@ -41,7 +41,7 @@ module _ (σ : Session) (number : ℕ) (es : List Event) where
     forTrue = λ l e. standing K.True _ (quiet (l, e, refl) refl);
     forValue = λ v e. standing K.Value _ (valued v refl e refl refl);
     forBackup = λ h e. standing K.Backup _ (backed h refl e refl refl);
-    forCut = λ x e. standing K.Cut _ (cutting x refl e refl refl);
+    forCut = λ h row edge left e d. standing K.Cut _ (cutting h row edge left refl e d refl refl);
     forReduce = λ h e. standing K.Reduce _ (reducing h refl e refl refl);
     forShow = standing K.Show _ (showing refl refl refl);
     forText = λ n e. standing K.Text _ (printing n refl e refl refl);
@@ -61,7 +61,7 @@ accepted-none : (σ : Session) (es : List Event) (k : Kind) (y : Reply) (r : Ref
 accepted-none σ es k y r n (quiet p q) e = let z : _≡_ {A = ℕ} 0 1 = cc in omega arith
 accepted-none σ es k y r n (valued v p h t q) e = let z : _≡_ {A = ℕ} 0 1 = cc in omega arith
 accepted-none σ es k y r n (backed h p i t q) e = let z : _≡_ {A = ℕ} 0 1 = cc in omega arith
-accepted-none σ es k y r n (cutting x p h t q) e = let z : _≡_ {A = ℕ} 0 1 = cc in omega arith
+accepted-none σ es k y r n (cutting h row edge left p i d t q) e = let z : _≡_ {A = ℕ} 0 1 = cc in omega arith
 accepted-none σ es k y r n (reducing h p i t q) e = let z : _≡_ {A = ℕ} 0 1 = cc in omega arith
 accepted-none σ es k y r n (showing p t q) e = let z : _≡_ {A = ℕ} 0 1 = cc in omega arith
 accepted-none σ es k y r n (printing m p h t q) e = let z : _≡_ {A = ℕ} 0 1 = cc in omega arith

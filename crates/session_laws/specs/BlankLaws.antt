@@ -8,24 +8,29 @@ use lib.ListN.{length, drop}
 use lib.Dec.{eqb}
 use Rattle.basics.specs.Tests.{Flag, isTrue, isFalse, flag}
 use Rattle.refusal.specs.Outcome.{Outcome, ok, refused}
+use Rattle.cutting.specs.declared.Cut.{Cut}
+use Rattle.cutting.specs.declared.Cut.the-variants as C
+use Rattle.cutting.specs.Cut.{diagramAnswer}
+use Rattle.mdp.specs.Runs.{aBackup, aCut, aReduce, call}
 use Rattle.text.specs.declared.Kind.{Kind}
 use Rattle.text.specs.declared.Kind.the-variants as K
 use Rattle.text.specs.LineForm.{lineKind}
 use Rattle.events.specs.declared.Event.{Event}
 use Rattle.events.specs.Contents.{keyIn, numberIn, wordAt, keysIn, numbersIn}
+use Rattle.answers.specs.declared.Answer.{Answer}
 use Rattle.answers.specs.Answers.{answerBytes}
-use Rattle.session.specs.Session.{Session, opening}
+use Rattle.session.specs.Session.{Session, opening, withHeld}
 use Rattle.session.specs.Place.{ruleOf}
 use Rattle.session.specs.Declaring.{constantLine, predicateLine, totalLine, discountLine, actionLine}
 use Rattle.session.specs.Facts.{objectsLine, isLine, trueLine}
 use Rattle.session.specs.ModelLines.{rewardLine, variantLine, becomesLine}
-use Rattle.session.specs.Running.{startLine, valueRead, backupLine, cutLine, reduceLine, formRead, bestRead, countRead}
+use Rattle.session.specs.Running.{startLine, valueRead, cutIs, formRead, bestRead, countRead}
 use Rattle.session.specs.Replies.{Reply, silent, answered, allowed, done, replyTo, wordsOf, reply}
 use Rattle.session.specs.Texts.{lineFeed, Lines, behindByte, linesOf, hasBytes, Progress, replyBytes}
 use Rattle.session.specs.Texts.{afterLine, afterLines, afterRest, closing, beginning, textRead, textAnswers}
 use Rattle.session_laws.specs.LineAnswers.{didRead}
 use Rattle.session_laws.specs.CaseLaws.{vocabularyOf}
-use Rattle.session_laws.specs.TextReplies.{replies, repliesBytes, restBytes, unspaced, squeezed, numbersFrom, replyUnder, renumbered, Spacing}
+use Rattle.session_laws.specs.TextReplies.{replies, repliesBytes, restBytes, unspaced, squeezed, numbersFrom, under, replyUnder, renumbered, Spacing}
 use Rattle.session_laws.specs.FoldLaws.{text-bytes}
 
 -- ===== One line =====
@@ -47,6 +52,11 @@ answered-under : {A : Type 0} (σ : Session) (i j : ℕ) (f g : A → Reply) (o 
 answered-under σ i j f g (ok a) e = e a
 answered-under σ i j f g (refused r) e = refl
 
+-- a cut is answered no refusal
+cut-under : (j : ℕ) (c : Cut) → under j (cutIs c) ≡ cutIs c
+cut-under j (C.Done row edge left) = refl
+cut-under j (C.Refused r) = refl
+
 done-under : (σ : Session) (i j : ℕ) (k : Kind) (es : List Event) → replyUnder j (done σ i k es) ≡ done σ j k es
 unfolding done
 done-under σ i j K.Constant es = answered-under σ i j _ _ (constantLine (σ .names) (keyIn (wordAt es 0))) (λ n. refl)
@@ -63,10 +73,12 @@ done-under σ i j K.Is es = answered-under σ i j _ _ (isLine (σ .names) (σ .l
 done-under σ i j K.True es =
     answered-under σ i j _ _ (trueLine (σ .model .arities) (σ .names) (σ .live) (keyIn (wordAt es 0)) (numbersIn (drop 1 es))) (λ l. refl)
 done-under σ i j K.Value es = answered-under σ i j _ _ (valueRead (σ .model .arities) (σ .live) (σ .held .diagram)) (λ v. refl)
-done-under σ i j K.Backup es = answered-under σ i j _ _ (backupLine (σ .model) (σ .held)) (λ h. refl)
-done-under σ i j K.Cut es = answered-under σ i j _ _ (cutLine (σ .model .arities) (σ .held)) (λ x. refl)
+done-under σ i j K.Backup es = answered-under σ i j _ _ (call (σ .model) aBackup (σ .held)) (λ h. refl)
+done-under σ i j K.Cut es =
+    answered-under σ i j _ _ (call (σ .model) aCut (σ .held))
+    (λ h. ap (λ (a : Answer). record { session = withHeld σ (σ .part) h; answer = a }) (cut-under j (diagramAnswer (σ .model .arities) (σ .held .diagram))))
 done-under σ i j K.Show es = refl
-done-under σ i j K.Reduce es = answered-under σ i j _ _ (reduceLine (σ .model .arities) (σ .held)) (λ h. refl)
+done-under σ i j K.Reduce es = answered-under σ i j _ _ (call (σ .model) aReduce (σ .held)) (λ h. refl)
 done-under σ i j K.Text es = answered-under σ i j _ _ (formRead (σ .model .arities) (σ .names) (σ .held .diagram)) (λ n. refl)
 done-under σ i j K.Best es = answered-under σ i j _ _ (bestRead (σ .model) (σ .live) (σ .held .diagram)) (λ x. refl)
 done-under σ i j K.Count es =

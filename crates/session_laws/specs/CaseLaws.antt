@@ -1,5 +1,5 @@
 -- What is shown of the reply to a line by cases: it is refused, or it is accepted as a line of its kind.
-use mathlib.Core.Path.{_≡_, refl}
+use mathlib.Core.Path.{_≡_, refl, ap}
 use mathlib.Core.List.{List, [], _∷_}
 use Prim.Native.Nat.{ℕ, _^_}
 use lib.ListN.{length, drop}
@@ -7,8 +7,12 @@ use Rattle.refusal.specs.declared.Refusal.{Refusal}
 use Rattle.refusal.specs.declared.Refusal.the-variants.{Form}
 use Rattle.diagram.specs.Rows.{rows}
 use Rattle.refusal.specs.Outcome.{Outcome, ok, refused}
+use Rattle.cutting.specs.declared.Edge.{Edge}
+use Rattle.cutting.specs.declared.Cut.{Cut}
+use Rattle.cutting.specs.declared.Cut.the-variants as C
+use Rattle.cutting.specs.Cut.{diagramAnswer}
 use Rattle.mdp.specs.Model.{scale}
-use Rattle.mdp.specs.Runs.{Held}
+use Rattle.mdp.specs.Runs.{aBackup, aCut, aReduce, Held, leaves, heldWith, call}
 use Rattle.best.specs.Moves.{Move}
 use Rattle.spread.specs.Spread.{Entry}
 use Rattle.text.specs.declared.Kind.{Kind}
@@ -18,12 +22,12 @@ use Rattle.events.specs.declared.Event.{Event}
 use Rattle.events.specs.Contents.{keyIn, numberIn, wordAt, keysIn, numbersIn}
 use Rattle.answers.specs.declared.Answer.the-variants as A
 use Rattle.session.specs.Place.{ruleOf}
-use Rattle.session.specs.Session.{Names, Live, Session}
-use Rattle.session.specs.Declaring.{Vocabulary, constantLine, predicateLine, totalLine, discountLine, actionLine}
+use Rattle.session.specs.Session.{Names, Live, Session, withNames, withLive, withHeld}
+use Rattle.session.specs.Declaring.{constantLine, Vocabulary, predicateLine, withVocabulary, totalLine, withTotal, discountLine, withDiscount, actionLine, withAction}
 use Rattle.session.specs.Facts.{objectsLine, isLine, trueLine}
 use Rattle.session.specs.ModelLines.{rewardLine, variantLine, becomesLine}
-use Rattle.session.specs.Running.{withHeld, startLine, valueRead, backupLine, CutDone, cutLine, reduceLine, formRead, bestRead, bestIs, countRead}
-use Rattle.session.specs.Replies.{Reply, refusal, silent, answered, allowed, withNames, withLive, withVocabulary, withTotal, withDiscount, withAction, done, placed, replyTo, wordsOf, reply}
+use Rattle.session.specs.Running.{startLine, valueRead, backupIs, cutIs, reduceIs, formRead, bestRead, bestIs, countRead}
+use Rattle.session.specs.Replies.{Reply, refusal, silent, answered, callSays, allowed, done, placed, replyTo, wordsOf, reply}
 use Rattle.session_laws.specs.LineAnswers.{didRead}
 
 abbrev pub vocabularyOf : Session → Vocabulary
@@ -46,12 +50,10 @@ pub record Cases (σ : Session) (number : ℕ) (es : List Event) (P : Kind → R
   pub forTrue : (l : Live) → trueLine (σ .model .arities) (σ .names) (σ .live) (keyIn (wordAt es 0)) (numbersIn (drop 1 es)) ≡ ok l → P K.True (silent (withLive σ l))
   pub forValue : (v : ℕ) → valueRead (σ .model .arities) (σ .live) (σ .held .diagram) ≡ ok v
       → P K.Value (record { session = σ; answer = A.Value v (σ .held .steps) (scale (σ .model) ^ σ .held .steps) })
-  pub forBackup : (h : Held) → backupLine (σ .model) (σ .held) ≡ ok h
-      → P K.Backup (record { session = withHeld σ (σ .part) h; answer = A.Backup (h .steps) (length (rows (h .diagram))) })
-  pub forCut : (x : CutDone) → cutLine (σ .model .arities) (σ .held) ≡ ok x
-      → P K.Cut (record { session = withHeld σ (σ .part) (x .held); answer = A.Cut (x .row) (x .edge) (x .left) })
-  pub forReduce : (h : Held) → reduceLine (σ .model .arities) (σ .held) ≡ ok h
-      → P K.Reduce (record { session = withHeld σ (σ .part) h; answer = A.Reduce (length (rows (h .diagram))) })
+  pub forBackup : (h : Held) → call (σ .model) aBackup (σ .held) ≡ ok h → P K.Backup (record { session = withHeld σ (σ .part) h; answer = backupIs h })
+  pub forCut : (h : Held) (row : ℕ) (edge : Edge) (left : ℕ) → call (σ .model) aCut (σ .held) ≡ ok h
+      → diagramAnswer (σ .model .arities) (σ .held .diagram) ≡ C.Done row edge left → P K.Cut (record { session = withHeld σ (σ .part) h; answer = A.Cut row edge left })
+  pub forReduce : (h : Held) → call (σ .model) aReduce (σ .held) ≡ ok h → P K.Reduce (record { session = withHeld σ (σ .part) h; answer = reduceIs h })
   pub forShow : P K.Show (record { session = σ; answer = A.Show (length (rows (σ .held .diagram))) })
   pub forText : (n : ℕ) → formRead (σ .model .arities) (σ .names) (σ .held .diagram) ≡ ok n → P K.Text (record { session = σ; answer = A.Text n })
   pub forBest : (x : Move) → bestRead (σ .model) (σ .live) (σ .held .diagram) ≡ ok x → P K.Best (record { session = σ; answer = bestIs (σ .names) x })
@@ -75,6 +77,13 @@ module _ (σ : Session) (number : ℕ) (es : List Event) (P : Kind → Reply →
   by : {A : Type 0} {f : A → Reply} {o : Outcome A} (k : Kind) → ((a : A) → o ≡ ok a → P k (f a)) → P k (answered σ number f o)
   by {o = o} k h = answered-by σ number (P k) (c .refusing k) o h
 
+  -- a cut by its own answer
+  cut-by : (q : Cut) → diagramAnswer (σ .model .arities) (σ .held .diagram) ≡ q
+      → P K.Cut (callSays σ number (λ h. cutIs q) (heldWith (σ .held .steps) (leaves (σ .model .arities) (σ .held .diagram) q)))
+  unfolding call
+  cut-by (C.Done row edge left) e = c .forCut _ row edge left (ap (λ (q : Cut). heldWith (σ .held .steps) (leaves (σ .model .arities) (σ .held .diagram) q)) e) e
+  cut-by (C.Refused r) e = c .refusing K.Cut r
+
   pub done-by : (k : Kind) → P k (done σ number k es)
   unfolding done
   done-by K.Constant = by K.Constant (c .forConstant)
@@ -91,7 +100,7 @@ module _ (σ : Session) (number : ℕ) (es : List Event) (P : Kind → Reply →
   done-by K.True = by K.True (c .forTrue)
   done-by K.Value = by K.Value (c .forValue)
   done-by K.Backup = by K.Backup (c .forBackup)
-  done-by K.Cut = by K.Cut (c .forCut)
+  done-by K.Cut = cut-by (diagramAnswer (σ .model .arities) (σ .held .diagram)) refl
   done-by K.Show = c .forShow
   done-by K.Reduce = by K.Reduce (c .forReduce)
   done-by K.Text = by K.Text (c .forText)

@@ -11,10 +11,11 @@ use Rattle.text.specs.LineForm.{lineKind}
 use Rattle.events.specs.declared.Event.{Event}
 use Rattle.session.specs.declared.Part.the-variants.{Run}
 use Rattle.session.specs.Place.{ruleOf}
-use Rattle.session.specs.Session.{Session, opening}
+use Rattle.session.specs.Session.{Session, opening, withHeld}
+use Rattle.session.specs.Declaring.{withVocabulary, withTotal, withDiscount}
 use Rattle.session.specs.ModelLines.{weighed}
-use Rattle.session.specs.Running.{withHeld, startLine}
-use Rattle.session.specs.Replies.{Reply, allowed, withVocabulary, withTotal, withDiscount, wordsOf, reply}
+use Rattle.session.specs.Running.{startLine}
+use Rattle.session.specs.Replies.{Reply, allowed, wordsOf, reply}
 use Rattle.session.specs.Good.{GoodSession}
 use Rattle.model_laws.specs.ModelRows.{modelRows, Counted}
 use Rattle.model_laws.specs.RowLaws.{reward-counted, action-counted, variant-counted, becomes-counted}
@@ -53,7 +54,7 @@ module _ (σ : Session) (g : GoodSession σ) (h : Counted σ) where
     forTrue = λ l e a. h;
     forValue = λ v e a. h;
     forBackup = λ x e a. h;
-    forCut = λ x e a. h;
+    forCut = λ x row edge left e d a. h;
     forReduce = λ x e a. h;
     forShow = λ a. h;
     forText = λ n e a. h;

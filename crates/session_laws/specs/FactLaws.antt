@@ -19,9 +19,8 @@ use Rattle.replay.specs.FactLaws.{row-length}
 use Rattle.refusal.specs.Outcome.{ok, Accepted}
 use Rattle.refusal.specs.OutcomeLaws.{accepted-ok, accepted-cond}
 use Rattle.session.specs.declared.Part.the-variants.{Run}
-use Rattle.session.specs.Session.{Live, Session}
+use Rattle.session.specs.Session.{Live, Session, withLive}
 use Rattle.session.specs.Facts.{withFact, begunAgain, isFact, factLine, predicateOf, trueLine}
-use Rattle.session.specs.Replies.{withLive}
 use Rattle.session.specs.Good.{GoodSession}
 use Rattle.session_laws.specs.StateLaws.{Described, described, state-made, live-good, log-none}
 

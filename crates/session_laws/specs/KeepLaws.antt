@@ -65,7 +65,7 @@ module _ (σ : Session) (p : σ .part ≡ Run) (number : ℕ) where
     forTrue = λ l e a. record { part = p; model = refl; names = refl; live = moved; held = λ q. refl };
     forValue = λ v e a. same K.Value;
     forBackup = λ h e a. record { part = p; model = refl; names = refl; live = λ q. refl; held = called };
-    forCut = λ x e a. record { part = p; model = refl; names = refl; live = λ q. refl; held = called };
+    forCut = λ h row edge left e d a. record { part = p; model = refl; names = refl; live = λ q. refl; held = called };
     forReduce = λ h e a. record { part = p; model = refl; names = refl; live = λ q. refl; held = called };
     forShow = λ a. same K.Show;
     forText = λ n e a. same K.Text;

@@ -53,7 +53,7 @@
 --   reply-good: every line keeps a session good
 --   objects-good: (objects n); is-good: (is c o); true-good: (true p o ..)
 --   did-good: (did action variant object ..): its next state can be lent, count and total are at most 10^18; did-read: what an accepted one has passed (document 02, L10)
---   start-good: (start); backup-good: (backup); cut-good: (cut); reduce-good: (reduce)
+--   start-good: (start); called-good: (backup), (cut) and (reduce)
 --   call-good: a backup, a cut or a reduction leaves a good value diagram
 --   line-keeps, lines-keep: in the run, names and model stay; the state in hand, value diagram and k where no line changes them
 --   reply-counted: every line keeps `rows` the sum of the rows of all model listings

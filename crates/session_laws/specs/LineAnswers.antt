@@ -8,9 +8,12 @@ use Rattle.refusal.specs.declared.Refusal.{Refusal}
 use Rattle.diagram.specs.Rows.{rows}
 use Rattle.diagram.specs.Sizes.{mostRows}
 use Rattle.refusal.specs.Outcome.{Outcome, ok}
+use Rattle.cutting.specs.declared.Edge.{Edge}
+use Rattle.cutting.specs.declared.Cut.the-variants as C
+use Rattle.cutting.specs.Cut.{diagramAnswer}
 use Rattle.mdp.specs.Model.{scale}
 use Rattle.mdp.specs.Bellman.{bellman}
-use Rattle.mdp.specs.Runs.{Held}
+use Rattle.mdp.specs.Runs.{aBackup, aCut, aReduce, Held, call}
 use Rattle.state.specs.Max.{Tuple}
 use Rattle.best.specs.Moves.{Move, actionAt}
 use Rattle.spread.specs.Spread.{Entry}
@@ -26,13 +29,13 @@ use Rattle.answers.specs.Answers.{field, fields, nameField, lineFeed, lineEnd, 
 use Rattle.answers.specs.Writing.{IsWord}
 use Rattle.session.specs.declared.Part.the-variants.{Run}
 use Rattle.session.specs.Place.{ruleOf}
-use Rattle.session.specs.Session.{Live, Session}
-use Rattle.session.specs.Declaring.{constantLine, predicateLine, totalLine, discountLine, actionLine}
+use Rattle.session.specs.Session.{Live, Session, withNames, withLive, withHeld}
+use Rattle.session.specs.Declaring.{constantLine, predicateLine, withVocabulary, totalLine, withTotal, discountLine, withDiscount, actionLine, withAction}
 use Rattle.session.specs.Facts.{objectsLine, isLine, trueLine}
 use Rattle.session.specs.ModelLines.{rewardLine, variantLine, becomesLine}
 use Rattle.session.specs.Replaying.{didLine}
-use Rattle.session.specs.Running.{withHeld, startLine, stateIn, valueRead, backupLine, CutDone, cutLine, reduceLine, tablesIn, formRead, bestRead, noKey, bestIs, entriesIn, countRead}
-use Rattle.session.specs.Replies.{Reply, refusal, silent, isPlaced, allowed, withNames, withLive, withVocabulary, withTotal, withDiscount, withAction, wordsOf}
+use Rattle.session.specs.Running.{startLine, stateIn, valueRead, backupIs, reduceIs, tablesIn, formRead, bestRead, noKey, bestIs, entriesIn, countRead}
+use Rattle.session.specs.Replies.{Reply, refusal, silent, isPlaced, allowed, wordsOf}
 use Rattle.session.specs.Texts.{valueForm, tableOf, replyBytes}
 
 -- the outcome is accepted, and the session is made of it
@@ -79,12 +82,11 @@ pub data Answered (σ : Session) (es : List Event) (k : Kind) (y : Reply) : Type
   quiet : MovesTo σ es k (y .session) → y .answer ≡ A.Nothing → Answered σ es k y
   valued : (v : ℕ) → k ≡ K.Value → valueRead (σ .model .arities) (σ .live) (σ .held .diagram) ≡ ok v
       → y .session ≡ σ → y .answer ≡ A.Value v (σ .held .steps) (scale (σ .model) ^ σ .held .steps) → Answered σ es k y
-  backed : (h : Held) → k ≡ K.Backup → backupLine (σ .model) (σ .held) ≡ ok h
-      → y .session ≡ withHeld σ (σ .part) h → y .answer ≡ A.Backup (h .steps) (length (rows (h .diagram))) → Answered σ es k y
-  cutting : (x : CutDone) → k ≡ K.Cut → cutLine (σ .model .arities) (σ .held) ≡ ok x
-      → y .session ≡ withHeld σ (σ .part) (x .held) → y .answer ≡ A.Cut (x .row) (x .edge) (x .left) → Answered σ es k y
-  reducing : (h : Held) → k ≡ K.Reduce → reduceLine (σ .model .arities) (σ .held) ≡ ok h
-      → y .session ≡ withHeld σ (σ .part) h → y .answer ≡ A.Reduce (length (rows (h .diagram))) → Answered σ es k y
+  backed : (h : Held) → k ≡ K.Backup → call (σ .model) aBackup (σ .held) ≡ ok h → y .session ≡ withHeld σ (σ .part) h → y .answer ≡ backupIs h → Answered σ es k y
+  cutting : (h : Held) (row : ℕ) (edge : Edge) (left : ℕ) → k ≡ K.Cut → call (σ .model) aCut (σ .held) ≡ ok h
+      → diagramAnswer (σ .model .arities) (σ .held .diagram) ≡ C.Done row edge left
+      → y .session ≡ withHeld σ (σ .part) h → y .answer ≡ A.Cut row edge left → Answered σ es k y
+  reducing : (h : Held) → k ≡ K.Reduce → call (σ .model) aReduce (σ .held) ≡ ok h → y .session ≡ withHeld σ (σ .part) h → y .answer ≡ reduceIs h → Answered σ es k y
   showing : k ≡ K.Show → y .session ≡ σ → y .answer ≡ A.Show (length (rows (σ .held .diagram))) → Answered σ es k y
   printing : (n : ℕ) → k ≡ K.Text → formRead (σ .model .arities) (σ .names) (σ .held .diagram) ≡ ok n → y .session ≡ σ → y .answer ≡ A.Text n → Answered σ es k y
   moving : (x : Move) → k ≡ K.Best → bestRead (σ .model) (σ .live) (σ .held .diagram) ≡ ok x

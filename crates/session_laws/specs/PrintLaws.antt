@@ -26,9 +26,9 @@ use Rattle.answers.specs.declared.Answer.{Answer}
 use Rattle.answers.specs.declared.Answer.the-variants as A
 use Rattle.answers.specs.Answers.{fields, nameField, lineEnd, bestHead, answerLine, countLines, answerBytes}
 use Rattle.session.specs.Place.{ruleOf}
-use Rattle.session.specs.Session.{Names, Live, Session, refuseIf}
+use Rattle.session.specs.Session.{Names, Live, Session, withLive, refuseIf}
 use Rattle.session.specs.Running.{stateIn, tablesIn, formRead, bestRead, noKey, bestIs, entriesIn, countRead}
-use Rattle.session.specs.Replies.{Reply, allowed, withLive, wordsOf, reply}
+use Rattle.session.specs.Replies.{Reply, allowed, wordsOf, reply}
 use Rattle.session.specs.Texts.{valueForm, tableOf, replyBytes}
 use Rattle.session.specs.Good.{GoodSession}
 use Rattle.session_laws.specs.PlaceLaws.{in-run, best-placed, did-placed, placed-objects}
@@ -48,7 +48,7 @@ reply-shows σ number s n e = go (lineKind s) (reply σ number s) (one-answer σ
     shown k y a (quiet p q) e = let z : _≡_ {A = ℕ} 0 1 = cc in absurd (omega arith)
     shown k y a (valued v p h t q) e = let z : _≡_ {A = ℕ} 0 1 = cc in absurd (omega arith)
     shown k y a (backed h p i t q) e = let z : _≡_ {A = ℕ} 0 1 = cc in absurd (omega arith)
-    shown k y a (cutting x p h t q) e = let z : _≡_ {A = ℕ} 0 1 = cc in absurd (omega arith)
+    shown k y a (cutting h row edge left p i d t q) e = let z : _≡_ {A = ℕ} 0 1 = cc in absurd (omega arith)
     shown k y a (reducing h p i t q) e = let z : _≡_ {A = ℕ} 0 1 = cc in absurd (omega arith)
     shown k y a (showing p t q) e =
         let c : length (rows (σ .held .diagram)) ≡ n = cc in
@@ -102,7 +102,7 @@ reply-prints σ number s n e = go (lineKind s) (reply σ number s) (one-answer �
     by-kind k y a (quiet p q) e = let z : _≡_ {A = ℕ} 0 1 = cc in absurd (omega arith)
     by-kind k y a (valued v p h t q) e = let z : _≡_ {A = ℕ} 0 1 = cc in absurd (omega arith)
     by-kind k y a (backed h p i t q) e = let z : _≡_ {A = ℕ} 0 1 = cc in absurd (omega arith)
-    by-kind k y a (cutting x p h t q) e = let z : _≡_ {A = ℕ} 0 1 = cc in absurd (omega arith)
+    by-kind k y a (cutting h row edge left p i d t q) e = let z : _≡_ {A = ℕ} 0 1 = cc in absurd (omega arith)
     by-kind k y a (reducing h p i t q) e = let z : _≡_ {A = ℕ} 0 1 = cc in absurd (omega arith)
     by-kind k y a (showing p t q) e = let z : _≡_ {A = ℕ} 0 1 = cc in absurd (omega arith)
     by-kind k y a (printing m p h t q) e =
@@ -149,7 +149,7 @@ reply-moves σ good number s i n a b c d e = go (lineKind s) (reply σ number s)
     by-kind k y w (quiet p q) e = let z : _≡_ {A = ℕ} 0 1 = cc in absurd (omega arith)
     by-kind k y w (valued v p h t q) e = let z : _≡_ {A = ℕ} 0 1 = cc in absurd (omega arith)
     by-kind k y w (backed h p r t q) e = let z : _≡_ {A = ℕ} 0 1 = cc in absurd (omega arith)
-    by-kind k y w (cutting x p h t q) e = let z : _≡_ {A = ℕ} 0 1 = cc in absurd (omega arith)
+    by-kind k y w (cutting h row edge left p i d t q) e = let z : _≡_ {A = ℕ} 0 1 = cc in absurd (omega arith)
     by-kind k y w (reducing h p r t q) e = let z : _≡_ {A = ℕ} 0 1 = cc in absurd (omega arith)
     by-kind k y w (showing p t q) e = let z : _≡_ {A = ℕ} 0 1 = cc in absurd (omega arith)
     by-kind k y w (printing m p h t q) e = let z : _≡_ {A = ℕ} 0 1 = cc in absurd (omega arith)
@@ -194,7 +194,7 @@ reply-counts σ good number s n m e = go (lineKind s) (reply σ number s) (one-a
     by-kind k y w (quiet p q) e = let z : _≡_ {A = ℕ} 0 1 = cc in absurd (omega arith)
     by-kind k y w (valued v p h t q) e = let z : _≡_ {A = ℕ} 0 1 = cc in absurd (omega arith)
     by-kind k y w (backed h p r t q) e = let z : _≡_ {A = ℕ} 0 1 = cc in absurd (omega arith)
-    by-kind k y w (cutting x p h t q) e = let z : _≡_ {A = ℕ} 0 1 = cc in absurd (omega arith)
+    by-kind k y w (cutting h row edge left p i d t q) e = let z : _≡_ {A = ℕ} 0 1 = cc in absurd (omega arith)
     by-kind k y w (reducing h p r t q) e = let z : _≡_ {A = ℕ} 0 1 = cc in absurd (omega arith)
     by-kind k y w (showing p t q) e = let z : _≡_ {A = ℕ} 0 1 = cc in absurd (omega arith)
     by-kind k y w (printing i p h t q) e = let z : _≡_ {A = ℕ} 0 1 = cc in absurd (omega arith)
@@ -239,7 +239,7 @@ reply-replays σ number s n m e = go (lineKind s) (reply σ number s) (one-answe
     by-kind k y w (quiet p q) e = let z : _≡_ {A = ℕ} 0 1 = cc in absurd (omega arith)
     by-kind k y w (valued v p h t q) e = let z : _≡_ {A = ℕ} 0 1 = cc in absurd (omega arith)
     by-kind k y w (backed h p r t q) e = let z : _≡_ {A = ℕ} 0 1 = cc in absurd (omega arith)
-    by-kind k y w (cutting x p h t q) e = let z : _≡_ {A = ℕ} 0 1 = cc in absurd (omega arith)
+    by-kind k y w (cutting h row edge left p i d t q) e = let z : _≡_ {A = ℕ} 0 1 = cc in absurd (omega arith)
     by-kind k y w (reducing h p r t q) e = let z : _≡_ {A = ℕ} 0 1 = cc in absurd (omega arith)
     by-kind k y w (showing p t q) e = let z : _≡_ {A = ℕ} 0 1 = cc in absurd (omega arith)
     by-kind k y w (printing i p h t q) e = let z : _≡_ {A = ℕ} 0 1 = cc in absurd (omega arith)

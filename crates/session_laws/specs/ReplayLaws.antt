@@ -22,9 +22,8 @@ use Rattle.mdp.specs.Bellman.{stateAfter}
 use Rattle.replay.specs.Replay.{Did, Replay, actionOf, inHand, stateNext, movedBy, counted, hasNoWeight, hasManyFacts, hasValuations, isTooHigh, did}
 use Rattle.replay.specs.FactLaws.{facts-whole, facts-lent}
 use Rattle.session.specs.declared.Part.the-variants.{Run}
-use Rattle.session.specs.Session.{Names, Live, Session}
+use Rattle.session.specs.Session.{Names, Live, Session, withLive}
 use Rattle.session.specs.Replaying.{variantNames, didOf, replayIn, replayed, didTo, didLine}
-use Rattle.session.specs.Replies.{withLive}
 use Rattle.session.specs.Good.{GoodLog, GoodSession}
 use Rattle.session_laws.specs.StateLaws.{live-good}
 use Rattle.session_laws.specs.FactLaws.{WholeRows}

@@ -6,6 +6,7 @@ use Prim.Native.Nat.{ℕ}
 use native.Mathlib.Omega.{arith}
 use lib.ListN.{drop}
 use Rattle.refusal.specs.Outcome.{ok}
+use Rattle.mdp.specs.Runs.{aBackup, aCut, aReduce}
 use Rattle.text.specs.declared.Kind.{Kind}
 use Rattle.text.specs.declared.Kind.the-variants as K
 use Rattle.text.specs.Line.{isBad, Words, GoodLine}
@@ -33,7 +34,7 @@ use Rattle.session_laws.specs.StateLaws.{objects-good, is-good}
 use Rattle.session_laws.specs.FactLaws.{WholeRows, true-good}
 use Rattle.session_laws.specs.ReplayLaws.{did-good}
 use Rattle.session_laws.specs.PlaceLaws.{in-model, in-run, variant-action}
-use Rattle.session_laws.specs.RunLaws.{start-good, backup-good, cut-good, reduce-good}
+use Rattle.session_laws.specs.RunLaws.{start-good, called-good}
 use Rattle.session_laws.specs.CaseLaws.{Cases, done-by, reply-by}
 
 -- a line of the kind k that stands where it may, and the events es of its words are those of its tree
@@ -97,9 +98,9 @@ module _ (σ : Session) (g : GoodSession σ) (whole : WholeRows (σ .live .facts
     forIs = λ l e t. is-good σ g (run K.Is refl t) _ _ l e;
     forTrue = λ l e t. true-good σ g (run K.True refl t) whole _ _ l e;
     forValue = λ v e t. g;
-    forBackup = λ h e t. backup-good σ g h e;
-    forCut = λ x e t. cut-good σ g x e;
-    forReduce = λ h e t. reduce-good σ g h e;
+    forBackup = λ h e t. called-good σ g aBackup h e;
+    forCut = λ h row edge left e d t. called-good σ g aCut h e;
+    forReduce = λ h e t. called-good σ g aReduce h e;
     forShow = λ t. g;
     forText = λ n e t. g;
     forBest = λ x e t. g;

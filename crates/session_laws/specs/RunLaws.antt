@@ -1,28 +1,21 @@
 -- (start), (backup), (cut) and (reduce) keep a session good (document 01, sections 'Text', 'Backup' and 'Cut'; document 02, L13).
-use mathlib.Core.Path.{_≡_, refl, sym}
+use mathlib.Core.Path.{_≡_, sym}
 use mathlib.Core.Bool.{true}
-use mathlib.Core.List.{List}
-use Prim.Native.Nat.{ℕ, suc, _≤_}
+use Prim.Native.Nat.{_≤_}
 use native.Mathlib.Omega.{arith}
 use lib.ListN.{length}
 use borrow.Author.Tests.{leb-true}
 use Rattle.basics.specs.Tests.{and-left, and-right}
-use Rattle.diagram.specs.Diagram.{Diagram}
-use Rattle.refusal.specs.Outcome.{Outcome, ok, refused, andThen}
+use Rattle.refusal.specs.Outcome.{Outcome, ok, andThen}
 use Rattle.refusal.specs.OutcomeLaws.{accepted-ok, accepted-then}
-use Rattle.cutting.specs.declared.Cut.{Cut}
-use Rattle.cutting.specs.declared.Cut.the-variants as C
-use Rattle.cutting.specs.Cut.{diagramAnswer}
-use Rattle.reduction.specs.Reduction.{reduceAnswer}
 use Rattle.mdp.specs.Model.{Model, GoodModel}
-use Rattle.mdp.specs.Backup.{backup}
-use Rattle.mdp.specs.Runs.{Call, aBackup, aCut, aReduce, Held, leaves, cutOutcome, taken, call, begin}
+use Rattle.mdp.specs.Runs.{Call, Held, call, begin}
 use Rattle.text.specs.declared.Kind.the-variants as K
 use Rattle.session.specs.declared.Part.the-variants.{Model as ModelPart, Run}
 use Rattle.session.specs.Place.{ruleOf}
-use Rattle.session.specs.Session.{Session}
+use Rattle.session.specs.Session.{Session, withHeld}
 use Rattle.session.specs.ModelLines.{weighed}
-use Rattle.session.specs.Running.{withHeld, startLine, backupLine, CutDone, cutTo, cutLine, reduceLine}
+use Rattle.session.specs.Running.{startLine}
 use Rattle.session.specs.Replies.{isWhole, allowed}
 use Rattle.session.specs.Good.{GoodValue, Begun, GoodSession}
 use Rattle.session_laws.specs.PlaceLaws.{model-run, start-model}
@@ -87,9 +80,8 @@ start-good σ g p a τ e =
 
 -- ===== (backup), (cut) and (reduce): one call more =====
 
--- the session that one call more leads to
-called-good : (σ : Session) → GoodSession σ → (c : Call) → GoodSession (withHeld σ (σ .part) (call (σ .model) c (σ .held)))
-called-good σ g c = record {
+pub called-good : (σ : Session) → GoodSession σ → (c : Call) (h : Held) → call (σ .model) c (σ .held) ≡ ok h → GoodSession (withHeld σ (σ .part) h)
+called-good σ g c h e = record {
   tables = g .tables;
   agreeing = g .agreeing;
   parts = g .parts;
@@ -98,34 +90,5 @@ called-good σ g c = record {
   most = g .most;
   log = g .log;
   quiet = g .quiet;
-  begun = λ e. let b = g .begun e in record { some = b .some; good = b .good; value = call-good (σ .model) (b .good) c (σ .held) (b .value) };
+  begun = λ r. let b = g .begun r in record { some = b .some; good = b .good; value = call-good (σ .model) (b .good) c (σ .held) (b .value) .given h e };
 }
-
-made-taken : (h : Held) (k : ℕ) (o : Outcome Diagram) (h′ : Held) → andThen o (λ d. ok (record { diagram = d; steps = k })) ≡ ok h′ → taken h o k ≡ h′
-made-taken h k (ok d) h′ e = cc
-made-taken h k (refused r) h′ e = let z : _≡_ {A = ℕ} 0 1 = cc in absurd (omega arith)
-
-backup-call : (m : Model) (h h′ : Held) → backupLine m h ≡ ok h′ → call m aBackup h ≡ h′
-unfolding backupLine call
-backup-call m h h′ e = made-taken h (suc (h .steps)) (backup m (h .steps) (h .diagram)) h′ e
-
-pub backup-good : (σ : Session) → GoodSession σ → (h : Held) → backupLine (σ .model) (σ .held) ≡ ok h → GoodSession (withHeld σ (σ .part) h)
-backup-good σ g h e = rw (← backup-call (σ .model) (σ .held) h e) (called-good σ g aBackup)
-
-cut-taken : (ar : List ℕ) (h : Held) (c : Cut) (x : CutDone) → cutTo ar h c ≡ ok x → taken h (leaves ar (h .diagram) c) (h .steps) ≡ x .held
-cut-taken ar h (C.Done k e n) x p = accepted-ok {P = λ (y : CutDone). taken h (leaves ar (h .diagram) (C.Done k e n)) (h .steps) ≡ y .held} refl .given x p
-cut-taken ar h (C.Refused r) x p = let z : _≡_ {A = ℕ} 0 1 = cc in absurd (omega arith)
-
-cut-call : (m : Model) (h : Held) (x : CutDone) → cutLine (m .arities) h ≡ ok x → call m aCut h ≡ x .held
-unfolding call cutLine cutOutcome
-cut-call m h x e = cut-taken (m .arities) h (diagramAnswer (m .arities) (h .diagram)) x e
-
-pub cut-good : (σ : Session) → GoodSession σ → (x : CutDone) → cutLine (σ .model .arities) (σ .held) ≡ ok x → GoodSession (withHeld σ (σ .part) (x .held))
-cut-good σ g x e = rw (← cut-call (σ .model) (σ .held) x e) (called-good σ g aCut)
-
-reduce-call : (m : Model) (h h′ : Held) → reduceLine (m .arities) h ≡ ok h′ → call m aReduce h ≡ h′
-unfolding reduceLine call
-reduce-call m h h′ e = made-taken h (h .steps) (reduceAnswer (m .arities) (h .diagram)) h′ e
-
-pub reduce-good : (σ : Session) → GoodSession σ → (h : Held) → reduceLine (σ .model .arities) (σ .held) ≡ ok h → GoodSession (withHeld σ (σ .part) h)
-reduce-good σ g h e = rw (← reduce-call (σ .model) (σ .held) h e) (called-good σ g aReduce)

@@ -17,9 +17,8 @@ use Rattle.state.specs.Lent.{factCount, namesBelow, constantsBelow, isState, mo
 use Rattle.refusal.specs.Outcome.{ok, Accepted}
 use Rattle.refusal.specs.OutcomeLaws.{accepted-ok, accepted-cond}
 use Rattle.session.specs.declared.Part.the-variants.{Run}
-use Rattle.session.specs.Session.{Names, Live, Session}
+use Rattle.session.specs.Session.{Names, Live, Session, withLive}
 use Rattle.session.specs.Facts.{cleared, objectsLine, placed, isLine}
-use Rattle.session.specs.Replies.{withLive}
 use Rattle.session.specs.Good.{GoodLog, GoodSession}
 use Rattle.session_laws.specs.PlaceLaws.{model-run}
 

@@ -1,18 +1,17 @@
 -- Demand 3 for texts, whole: behind whatever lines, the value diagram and k are those of a run of the model accepted at (start), of the very backups,
 -- cuts and reductions that the lines behind it ask for (document 01, section 'Backup'; document 02, L13).
 use mathlib.Core.Path.{_≡_, refl, sym, ap, ap₂, _∙_, subst}
-use mathlib.Core.Bool.{Bool, true, false, cond}
+use mathlib.Core.Bool.{cond}
 use mathlib.Core.List.{List, [], _∷_, _++_}
 use mathlib.Core.Option.{Option, some, none}
 use Prim.Native.Nat.{ℕ, suc, _+_}
 use native.Mathlib.Omega.{arith}
 use native.Mathlib.Nat.{zero-add}
 use lib.ListN.{length}
+use Rattle.basics.specs.Tests.{cond-const}
 use Rattle.diagram.specs.Diagram.{Diagram}
-use Rattle.refusal.specs.Outcome.{Outcome, ok, refused, andThen}
+use Rattle.refusal.specs.Outcome.{Outcome, ok, refused}
 use Rattle.refusal.specs.OutcomeLaws.{accepted-ok, accepted-next}
-use Rattle.cutting.specs.declared.Cut.{Cut}
-use Rattle.cutting.specs.declared.Cut.the-variants as C
 use Rattle.cutting.specs.Cut.{diagramAnswer}
 use Rattle.reduction.specs.Reduction.{reduceAnswer}
 use Rattle.state.specs.State.{meaning}
@@ -20,7 +19,7 @@ use Rattle.minimum.specs.Number.{number}
 use Rattle.mdp.specs.Model.{Model, GoodModel}
 use Rattle.mdp.specs.Bellman.{bellman}
 use Rattle.mdp.specs.Backup.{backup}
-use Rattle.mdp.specs.Runs.{Call, Held, leaves, cutOutcome, taken, call, runFrom, begin, run}
+use Rattle.mdp.specs.Runs.{Call, Held, cutOutcome, heldWith, call, taken, runFrom, begin, run}
 use Rattle.mdp.specs.RunLaws.{demand-3}
 use Rattle.words.specs.declared.Key.{Key}
 use Rattle.text.specs.declared.Kind.{Kind}
@@ -32,10 +31,11 @@ use Rattle.answers.specs.declared.Answer.the-variants as A
 use Rattle.session.specs.declared.Part.the-variants.{Model as ModelPart, Run}
 use Rattle.session.specs.declared.Rule.the-variants as R
 use Rattle.session.specs.Place.{ruleOf}
-use Rattle.session.specs.Session.{Session, opening}
+use Rattle.session.specs.Session.{Session, opening, withHeld}
+use Rattle.session.specs.Declaring.{withVocabulary, withTotal, withDiscount, withAction}
 use Rattle.session.specs.ModelLines.{withReward, rewardRead, rewardLine, withVariant, weightRead, variantLine, truthsNow, withTruth, truthRead, becomesLine, weighed}
-use Rattle.session.specs.Running.{withHeld, startLine, backupLine, cutTo, cutLine, reduceLine}
-use Rattle.session.specs.Replies.{Reply, silent, allowed, withVocabulary, withTotal, withDiscount, withAction, backupSays, cutSays, reduceSays, done, placed, replyTo, wordsOf, reply}
+use Rattle.session.specs.Running.{startLine, backupIs, cutIs, reduceIs}
+use Rattle.session.specs.Replies.{Reply, silent, allowed, callSays, done, placed, replyTo, wordsOf, reply}
 use Rattle.session.specs.Texts.{hasBytes, Progress, replied, afterLine, afterLines, beginning}
 use Rattle.session_laws.specs.TextReplies.{replies}
 use Rattle.session_laws.specs.TextRuns.{callOf, callThen, callsOf, isRefused, oneIfBackup, acceptedBackup, acceptedBackups, RunOf, HoldsValues}
@@ -58,13 +58,9 @@ record Went (σ : Session) (h : Held) (n : ℕ) (τ : Session) : Type 0 where
 abbrev OneCall : Session → Kind → Reply → Type 0
 OneCall σ k y = Went σ (runFrom (σ .model) (callThen (callOf k) []) (σ .held)) (acceptedBackup k (y .answer)) (y .session)
 
-uncounted : (k : Kind) (a : Answer) → callOf k ≡ none → acceptedBackup k a ≡ 0
+uncounted : (k : Kind) (a : Answer) → oneIfBackup (callOf k) ≡ 0 → acceptedBackup k a ≡ 0
 unfolding acceptedBackup
-uncounted k a c = go (isRefused a)
-  where
-    go : (b : Bool) → cond b 0 (oneIfBackup (callOf k)) ≡ 0
-    go true = refl
-    go false = ap oneIfBackup c
+uncounted k a c = ap (cond (isRefused a) 0) c ∙ cond-const (isRefused a) 0
 
 -- a kind of line that asks for a backup, a cut, a reduction, or nothing
 data Asks (k : Kind) : Type 0 where
@@ -105,7 +101,7 @@ module _ (σ : Session) (p : σ .part ≡ Run) (number : ℕ) where
     part = e ∙ p;
     model = f;
     held = h ∙ ap (λ (o : Option Call). runFrom (σ .model) (callThen o []) (σ .held)) (sym c);
-    steps = let z = uncounted k (y .answer) c in let q = ap (λ (x : Held). x .steps) h in omega arith;
+    steps = let z = uncounted k (y .answer) (ap oneIfBackup c) in let q = ap (λ (x : Held). x .steps) h in omega arith;
   }
 
   uncalled : (s : List ℕ) → callOf (lineKind s) ≡ none → OneCall σ (lineKind s) (reply σ number s)
@@ -119,38 +115,26 @@ module _ (σ : Session) (p : σ .part ≡ Run) (number : ℕ) where
       ap (λ (j : Kind). replyTo σ number j (wordsOf j (b ∷ t))) i
       ∙ ap (λ (o : Outcome (Unit {0})). placed σ number o (done σ number k (wordsOf k (b ∷ t)))) (ap (allowed σ) (ap (ruleOf k) p ∙ q))
 
-  backup-done : (es : List Event) → OneCall σ K.Backup (done σ number K.Backup es)
-  unfolding done backupLine runFrom call acceptedBackup
-  backup-done es = go (backup (σ .model) (σ .held .steps) (σ .held .diagram))
-    where
-      said : Outcome Diagram → Reply
-      said o = backupSays σ number (andThen o (λ d. ok (record { diagram = d; steps = suc (σ .held .steps) })))
+  -- a line of the kind k that is a call of the run, with j for k behind it
+  called : (k : Kind) (says : Held → Answer) (j : ℕ) (o : Outcome Diagram) → ((h : Held) → j ≡ σ .held .steps + acceptedBackup k (says h))
+      → Went σ (taken (σ .held) (heldWith j o)) (acceptedBackup k (callSays σ number says (heldWith j o) .answer)) (callSays σ number says (heldWith j o) .session)
+  unfolding acceptedBackup
+  called k says j (ok d) e = record { part = p; model = refl; held = refl; steps = e _ }
+  called k says j (refused r) e = record { part = p; model = refl; held = refl; steps = omega arith }
 
-      go : (o : Outcome Diagram) → Went σ (taken (σ .held) o (suc (σ .held .steps))) (acceptedBackup K.Backup (said o .answer)) (said o .session)
-      go (ok d) = record { part = p; model = refl; held = refl; steps = omega arith }
-      go (refused r) = record { part = p; model = refl; held = refl; steps = omega arith }
+  backup-done : (es : List Event) → OneCall σ K.Backup (done σ number K.Backup es)
+  unfolding done call runFrom acceptedBackup
+  backup-done es = called K.Backup backupIs (suc (σ .held .steps)) (backup (σ .model) (σ .held .steps) (σ .held .diagram)) (λ h. omega arith)
 
   cut-done : (es : List Event) → OneCall σ K.Cut (done σ number K.Cut es)
-  unfolding done cutLine runFrom call cutOutcome acceptedBackup
-  cut-done es = go (diagramAnswer (σ .model .arities) (σ .held .diagram))
-    where
-      said : Cut → Reply
-      said c = cutSays σ number (cutTo (σ .model .arities) (σ .held) c)
-
-      go : (c : Cut) → Went σ (taken (σ .held) (leaves (σ .model .arities) (σ .held .diagram) c) (σ .held .steps)) (acceptedBackup K.Cut (said c .answer)) (said c .session)
-      go (C.Done k e n) = record { part = p; model = refl; held = refl; steps = omega arith }
-      go (C.Refused r) = record { part = p; model = refl; held = refl; steps = omega arith }
+  unfolding done call runFrom acceptedBackup
+  cut-done es =
+      let told = cutIs (diagramAnswer (σ .model .arities) (σ .held .diagram)) in
+      called K.Cut (λ h. told) (σ .held .steps) (cutOutcome (σ .model .arities) (σ .held .diagram)) (λ h. omega (arith, uncounted K.Cut told refl))
 
   reduce-done : (es : List Event) → OneCall σ K.Reduce (done σ number K.Reduce es)
-  unfolding done reduceLine runFrom call acceptedBackup
-  reduce-done es = go (reduceAnswer (σ .model .arities) (σ .held .diagram))
-    where
-      said : Outcome Diagram → Reply
-      said o = reduceSays σ number (andThen o (λ d. ok (record { diagram = d; steps = σ .held .steps })))
-
-      go : (o : Outcome Diagram) → Went σ (taken (σ .held) o (σ .held .steps)) (acceptedBackup K.Reduce (said o .answer)) (said o .session)
-      go (ok d) = record { part = p; model = refl; held = refl; steps = omega arith }
-      go (refused r) = record { part = p; model = refl; held = refl; steps = omega arith }
+  unfolding done call runFrom acceptedBackup
+  reduce-done es = called K.Reduce reduceIs (σ .held .steps) (reduceAnswer (σ .model .arities) (σ .held .diagram)) (λ h. omega arith)
 
   line-run : (s : List ℕ) → OneCall σ (lineKind s) (reply σ number s)
   line-run s = go (asks (lineKind s))
@@ -242,7 +226,7 @@ module _ (σ : Session) (p : σ .part ≡ ModelPart) (number : ℕ) where
     forTrue = λ l e a. later K.True refl a;
     forValue = λ v e a. later K.Value refl a;
     forBackup = λ h e a. later K.Backup refl a;
-    forCut = λ x e a. later K.Cut refl a;
+    forCut = λ h row edge left e d a. later K.Cut refl a;
     forReduce = λ h e a. later K.Reduce refl a;
     forShow = λ a. later K.Show refl a;
     forText = λ n e a. later K.Text refl a;

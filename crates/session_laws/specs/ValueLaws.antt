@@ -95,7 +95,7 @@ value-bellman σ g holds number s v k w e = go (lineKind s) (reply σ number s) 
           power = sym ws ∙ ap (λ j. scale (σ .model) ^ j) ks;
         }
     valued-is i y a (backed h p r t q) e = let z : _≡_ {A = ℕ} 0 1 = cc in absurd (omega arith)
-    valued-is i y a (cutting x p r t q) e = let z : _≡_ {A = ℕ} 0 1 = cc in absurd (omega arith)
+    valued-is i y a (cutting h row edge left p r d t q) e = let z : _≡_ {A = ℕ} 0 1 = cc in absurd (omega arith)
     valued-is i y a (reducing h p r t q) e = let z : _≡_ {A = ℕ} 0 1 = cc in absurd (omega arith)
     valued-is i y a (showing p t q) e = let z : _≡_ {A = ℕ} 0 1 = cc in absurd (omega arith)
     valued-is i y a (printing n p r t q) e = let z : _≡_ {A = ℕ} 0 1 = cc in absurd (omega arith)

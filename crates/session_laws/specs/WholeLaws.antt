@@ -9,11 +9,12 @@ use Rattle.text.specs.declared.Kind.{Kind}
 use Rattle.text.specs.LineForm.{lineKind}
 use Rattle.events.specs.declared.Event.{Event}
 use Rattle.session.specs.declared.Part.the-variants.{Run}
-use Rattle.session.specs.Session.{Live, Session}
+use Rattle.session.specs.Session.{Live, Session, withHeld}
+use Rattle.session.specs.Declaring.{withVocabulary, withTotal, withDiscount, withAction}
 use Rattle.session.specs.Facts.{cleared, objectsLine, placed, isLine}
 use Rattle.session.specs.ModelLines.{withReward, rewardRead, rewardLine, withVariant, weightRead, variantLine, truthsNow, withTruth, truthRead, becomesLine, weighed}
-use Rattle.session.specs.Running.{withHeld, startLine}
-use Rattle.session.specs.Replies.{Reply, withVocabulary, withTotal, withDiscount, withAction, wordsOf, reply}
+use Rattle.session.specs.Running.{startLine}
+use Rattle.session.specs.Replies.{Reply, wordsOf, reply}
 use Rattle.session_laws.specs.StateLaws.{objects-kept, is-kept}
 use Rattle.session_laws.specs.FactLaws.{WholeRows, true-whole}
 use Rattle.session_laws.specs.ReplayLaws.{did-whole}
@@ -72,7 +73,7 @@ module _ (σ : Session) (w : WholeRows (σ .live .facts)) where
     forTrue = λ l e. true-whole σ w _ _ l e;
     forValue = λ v e. w;
     forBackup = λ h e. w;
-    forCut = λ x e. w;
+    forCut = λ h row edge left e d. w;
     forReduce = λ h e. w;
     forShow = w;
     forText = λ n e. w;

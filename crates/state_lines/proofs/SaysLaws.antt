@@ -13,9 +13,9 @@ use Rattle.events.specs.Events.{firstWord}
 use Rattle.events.specs.Front.{nextAt, eventsOf}
 use Rattle.events.specs.Contents.{keyIn, numberIn, wordAt, numbersIn}
 use Rattle.answers.specs.declared.Answer.the-variants.{Refused as RefusedAs, Nothing}
-use Rattle.session.specs.Session.{Live as SessionLive}
+use Rattle.session.specs.Session.{Live as SessionLive, withLive}
 use Rattle.session.specs.Facts.{objectsLine, isLine, trueLine}
-use Rattle.session.specs.Replies.{withLive, quietly, done, wordsOf}
+use Rattle.session.specs.Replies.{quietly, done, wordsOf}
 use Rattle.declare.specs.Tables.{namesOf}
 use Rattle.facts.specs.declared.Live.{Live}
 use Rattle.facts.specs.declared.Told.{Told}

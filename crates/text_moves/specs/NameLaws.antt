@@ -28,11 +28,12 @@ use Rattle.events.specs.Contents.{keyIn, wordAt, keysIn}
 use Rattle.events.specs.LineEvents.{line-events}
 use Rattle.answers.specs.Answers.{bestHead, nameField, fields, lineEnd}
 use Rattle.session.specs.declared.Part.the-variants.{Run}
-use Rattle.session.specs.Session.{Session, opening}
+use Rattle.session.specs.Session.{Session, opening, withHeld}
 use Rattle.session.specs.Session as S
+use Rattle.session.specs.Declaring.{withVocabulary, withTotal, withDiscount, withAction}
 use Rattle.session.specs.ModelLines.{withReward, rewardRead, rewardLine, addVariant, withVariant, weightRead, variantLine, lastVariant, truthsNow, withTruth, truthRead, becomesLine, weighed}
-use Rattle.session.specs.Running.{noKey, withHeld, startLine}
-use Rattle.session.specs.Replies.{Reply, withVocabulary, withTotal, withDiscount, withAction, wordsOf, reply}
+use Rattle.session.specs.Running.{noKey, startLine}
+use Rattle.session.specs.Replies.{Reply, wordsOf, reply}
 use Rattle.session.specs.Texts.{hasBytes, Progress, replied, afterLine, afterLines, beginning, replyBytes}
 use Rattle.session_laws.specs.TextReplies.{replies}
 use Rattle.session_laws.specs.TextRuns.{isRefused}
@@ -123,7 +124,7 @@ module _ (σ : Session) (number : ℕ) (es : List Event) where
     forTrue = λ l e. keeps never refl refl;
     forValue = λ v e. keeps never refl refl;
     forBackup = λ h e. keeps never refl refl;
-    forCut = λ x e. keeps never refl refl;
+    forCut = λ h row edge left e d. keeps never refl refl;
     forReduce = λ h e. keeps never refl refl;
     forShow = keeps never refl refl;
     forText = λ n e. keeps never refl refl;

@@ -8,13 +8,12 @@ use native.Mathlib.Nat.{zero-add}
 use lib.ListN.{length}
 use Rattle.refusal.specs.declared.Refusal.{Refusal}
 use Rattle.refusal.specs.declared.Refusal.the-variants.{Missing, Valuations}
-use Rattle.refusal.specs.Outcome.{Outcome, ok, refused, andThen}
-use Rattle.refusal.specs.OutcomeLaws.{accepted-ok, accepted-then}
-use Rattle.diagram.specs.Diagram.{Diagram}
+use Rattle.refusal.specs.Outcome.{ok}
 use Rattle.mdp.specs.Model.{Model, scale}
 use Rattle.mdp.specs.Bellman.{rewardIn, bellman}
 use Rattle.mdp.specs.Backup.{backup}
-use Rattle.mdp.specs.Runs.{Held}
+use Rattle.mdp.specs.Runs.{aBackup, Held, call}
+use Rattle.mdp.specs.StepLaws.{held-with}
 use Rattle.best.specs.Moves.{Move, moveSum}
 use Rattle.best.specs.RefusalLaws.{stopped-refused, backup-large}
 use Rattle.words.specs.declared.Key.{Key}
@@ -24,8 +23,8 @@ use Rattle.text.specs.LineForm.{lineKind}
 use Rattle.answers.specs.declared.Answer.the-variants as A
 use Rattle.session.specs.declared.Part.the-variants.{Run}
 use Rattle.session.specs.Place.{ruleOf}
-use Rattle.session.specs.Session.{Live, Session}
-use Rattle.session.specs.Running.{withHeld, stateIn, backupLine as backupLineOf}
+use Rattle.session.specs.Session.{Live, Session, withHeld}
+use Rattle.session.specs.Running.{stateIn}
 use Rattle.session.specs.Replies.{Reply, allowed, wordsOf, reply}
 use Rattle.session.specs.Texts.{Progress, afterLine, afterLines, beginning}
 use Rattle.session_laws.specs.PlaceLaws.{model-run, in-run}
@@ -88,16 +87,16 @@ state-stays ls σ q p ms none τ u =
 
 -- ===== (best), (backup), (value), one behind the other =====
 
-line-steps : (m : Model) (h h′ : Held) → backupLineOf m h ≡ ok h′ → h′ .steps ≡ suc (h .steps)
-unfolding backupLineOf
-line-steps m h h′ e =
-    accepted-then {P = λ d. Unit {0}} {Q = λ (z : Held). z .steps ≡ suc (h .steps)} (backup m (h .steps) (h .diagram)) (record { given = λ d q. tt }) (λ d u. accepted-ok refl) .given h′ e
+-- an accepted backup gave the diagram held behind it, and adds 1 to k
+backup-given : (m : Model) (h h′ : Held) → call m aBackup h ≡ ok h′ → (backup m (h .steps) (h .diagram) ≡ ok (h′ .diagram)) × (h′ .steps ≡ suc (h .steps))
+unfolding call
+backup-given m h h′ e = held-with (suc (h .steps)) (backup m (h .steps) (h .diagram)) e
 
 -- the reply y is that of an accepted backup
 record Backed (σ : Session) (y : Reply) : Type 0 where
   run : σ .part ≡ Run
   held : Held
-  read : backupLineOf (σ .model) (σ .held) ≡ ok held
+  read : call (σ .model) aBackup (σ .held) ≡ ok held
   session : y .session ≡ withHeld σ (σ .part) held
 
 backup-read : (σ : Session) (number : ℕ) (s : List ℕ) (k n : ℕ) → reply σ number s .answer ≡ A.Backup k n → Backed σ (reply σ number s)
@@ -112,7 +111,7 @@ backup-read σ number s k n e = go (lineKind s) (reply σ number s) (one-answer 
       read = r;
       session = t;
     }
-    by-kind i y a (cutting x p r t q) e = let z : _≡_ {A = ℕ} 0 1 = cc in absurd (omega arith)
+    by-kind i y a (cutting h row edge left p r d t q) e = let z : _≡_ {A = ℕ} 0 1 = cc in absurd (omega arith)
     by-kind i y a (reducing h p r t q) e = let z : _≡_ {A = ℕ} 0 1 = cc in absurd (omega arith)
     by-kind i y a (showing p t q) e = let z : _≡_ {A = ℕ} 0 1 = cc in absurd (omega arith)
     by-kind i y a (printing m p r t q) e = let z : _≡_ {A = ℕ} 0 1 = cc in absurd (omega arith)
@@ -125,21 +124,10 @@ backup-read σ number s k n e = go (lineKind s) (reply σ number s) (one-answer 
     go i y (refusing r p) e = let d = sym (ap (λ (z : Reply). z .answer) p) ∙ e in let z : _≡_ {A = ℕ} 0 1 = cc in absurd (omega arith)
     go i y (accepted a p) e = by-kind i y a p e
 
--- an accepted backup adds 1 to k
 backup-steps : (σ : Session) (number : ℕ) (s : List ℕ) (k n : ℕ) → reply σ number s .answer ≡ A.Backup k n → reply σ number s .session .held .steps ≡ suc (σ .held .steps)
 backup-steps σ number s k n e =
     let b = backup-read σ number s k n e in
-    ap (λ (τ : Session). τ .held .steps) (b .session) ∙ line-steps (σ .model) (σ .held) (b .held) (b .read)
-
--- it gave a diagram
-line-given : (m : Model) (h h′ : Held) → backupLineOf m h ≡ ok h′ → (d : Diagram) × (backup m (h .steps) (h .diagram) ≡ ok d)
-unfolding backupLineOf
-line-given m h h′ e = go (backup m (h .steps) (h .diagram)) refl e
-  where
-    go : (o : Outcome Diagram) → backup m (h .steps) (h .diagram) ≡ o → andThen o (λ d. ok (record { diagram = d; steps = suc (h .steps) })) ≡ ok h′
-        → (d : Diagram) × (backup m (h .steps) (h .diagram) ≡ ok d)
-    go (ok d) p q = (d, p)
-    go (refused r) p q = let z : _≡_ {A = ℕ} 0 1 = cc in absurd (omega arith)
+    ap (λ (τ : Session). τ .held .steps) (b .session) ∙ backup-given (σ .model) (σ .held) (b .held) (b .read) .1
 
 -- "It has their refusals": where (backup) is accepted, (best) is refused by 20 or 15 or not at all
 pub backup-best : (σ : Session) (i j : ℕ) (k rows : ℕ) → reply σ i backupLine .answer ≡ A.Backup k rows
@@ -153,8 +141,8 @@ backup-best σ i j k rows e r n f = go r (best-refuses σ j r n f)
     go r (in-model p) = model-run (sym p ∙ b .run)
     go r (missing p v) = inl refl
     go r (stopping p q h) =
-        let d = line-given (σ .model) (σ .held) (b .held) (b .read) in
-        inr (backup-large (σ .model) (σ .held .diagram) (σ .held .steps) (d .0) (d .1) (inHand σ) _ (stopped-refused (σ .model) (inHand σ) (σ .held .diagram) _ h))
+        let d = backup-given (σ .model) (σ .held) (b .held) (b .read) .0 in
+        inr (backup-large (σ .model) (σ .held .diagram) (σ .held .steps) _ d (inHand σ) _ (stopped-refused (σ .model) (inHand σ) (σ .held .diagram) _ h))
 
 -- the session behind two lines more
 two-lines : (ls : List (List ℕ)) (σ : Session) → σ ≡ afterLines beginning ls .session → (s t : List ℕ) → reply σ (suc (length ls)) s .session ≡ σ

@@ -27,10 +27,10 @@ use Rattle.text.specs.LineForm.{lineKind}
 use Rattle.answers.specs.declared.Answer.the-variants as A
 use Rattle.answers.specs.Answers.{didHead, field, lineEnd}
 use Rattle.session.specs.declared.Part.the-variants.{Model as ModelPart, Run}
-use Rattle.session.specs.Session.{Session, opening}
+use Rattle.session.specs.Session.{Session, opening, withLive}
 use Rattle.session.specs.Running.{stateIn}
 use Rattle.session.specs.Replaying.{variantNames, didOf, replayIn}
-use Rattle.session.specs.Replies.{Reply, isPlaced, withLive, refusal, reply}
+use Rattle.session.specs.Replies.{Reply, isPlaced, refusal, reply}
 use Rattle.session.specs.Texts.{replyBytes, afterLines, beginning}
 use Rattle.session_laws.specs.TextReplies.{replies}
 use Rattle.session_laws.specs.TextRuns.{isRefused}

@@ -18,12 +18,13 @@ use Rattle.text.specs.LineForm.{lineKind}
 use Rattle.events.specs.declared.Event.{Event}
 use Rattle.events.specs.Contents.{keyIn, wordAt, keysIn}
 use Rattle.session.specs.declared.Part.the-variants.{Run}
-use Rattle.session.specs.Session.{Session}
+use Rattle.session.specs.Session.{Session, withHeld}
 use Rattle.session.specs.Session as S
+use Rattle.session.specs.Declaring.{withVocabulary, withTotal, withDiscount, withAction}
 use Rattle.session.specs.ModelLines.{withReward, rewardRead, rewardLine, addVariant, withVariant, weightRead, variantLine}
 use Rattle.session.specs.ModelLines.{lastTruths, lastVariant, truthsNow, withTruth, truthRead, becomesLine, weighed}
-use Rattle.session.specs.Running.{withHeld, startLine}
-use Rattle.session.specs.Replies.{Reply, withVocabulary, withTotal, withDiscount, withAction, wordsOf, reply}
+use Rattle.session.specs.Running.{startLine}
+use Rattle.session.specs.Replies.{Reply, wordsOf, reply}
 use Rattle.session_laws.specs.TextRuns.{isRefused}
 use Rattle.session_laws.specs.RunLaws.{made-by}
 use Rattle.session_laws.specs.CaseLaws.{Cases, vocabularyOf, done-by, reply-by}
@@ -157,7 +158,7 @@ module _ (σ : Session) (number : ℕ) (es : List Event) where
     forTrue = λ l e. leaves never (record { actions = refl; counts = refl; lens = refl; all = refl });
     forValue = λ v e. leaves never (same σ);
     forBackup = λ h e. leaves never (record { actions = refl; counts = refl; lens = refl; all = refl });
-    forCut = λ x e. leaves never (record { actions = refl; counts = refl; lens = refl; all = refl });
+    forCut = λ h row edge left e d. leaves never (record { actions = refl; counts = refl; lens = refl; all = refl });
     forReduce = λ h e. leaves never (record { actions = refl; counts = refl; lens = refl; all = refl });
     forShow = leaves never (same σ);
     forText = λ n e. leaves never (same σ);

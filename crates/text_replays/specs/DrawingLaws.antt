@@ -19,12 +19,13 @@ use Rattle.events.specs.declared.Event.{Event}
 use Rattle.events.specs.Contents.{keyIn, wordAt, keysIn}
 use Rattle.session.specs.declared.Part.the-variants.{Run}
 use Rattle.session.specs.Place.{ruleOf}
-use Rattle.session.specs.Session.{Session}
+use Rattle.session.specs.Session.{Session, withHeld}
 use Rattle.session.specs.Session as S
+use Rattle.session.specs.Declaring.{withVocabulary, withTotal, withDiscount, withAction}
 use Rattle.session.specs.ModelLines.{withReward, rewardRead, rewardLine, addVariant, noTruths, withVariant, weightRead, variantLine}
 use Rattle.session.specs.ModelLines.{withTruthAt, lastVariant, truthsNow, withTruth, truthRead, becomesLine, weighed}
-use Rattle.session.specs.Running.{withHeld, startLine}
-use Rattle.session.specs.Replies.{Reply, withVocabulary, withTotal, withDiscount, withAction, allowed, wordsOf, reply}
+use Rattle.session.specs.Running.{startLine}
+use Rattle.session.specs.Replies.{Reply, allowed, wordsOf, reply}
 use Rattle.session_laws.specs.TextRuns.{isRefused}
 use Rattle.session_laws.specs.PlaceLaws.{in-model, becomes-variant}
 use Rattle.session_laws.specs.RunLaws.{made-by}
@@ -125,7 +126,7 @@ module _ (σ : Session) (number : ℕ) (es : List Event) where
     forTrue = λ l e a. leaves never (record { actions = refl; variants = refl });
     forValue = λ v e a. leaves never (record { actions = refl; variants = refl });
     forBackup = λ h e a. leaves never (record { actions = refl; variants = refl });
-    forCut = λ x e a. leaves never (record { actions = refl; variants = refl });
+    forCut = λ h row edge left e d a. leaves never (record { actions = refl; variants = refl });
     forReduce = λ h e a. leaves never (record { actions = refl; variants = refl });
     forShow = λ a. leaves never (record { actions = refl; variants = refl });
     forText = λ n e a. leaves never (record { actions = refl; variants = refl });

@@ -24,12 +24,13 @@ use Rattle.events.specs.declared.Event.{Event}
 use Rattle.session.specs.declared.Part.the-variants.{Model as ModelPart, Run}
 use Rattle.session.specs.declared.Rule.the-variants as R
 use Rattle.session.specs.Place.{ruleOf}
-use Rattle.session.specs.Session.{Names, Live, Session, refuseIf}
+use Rattle.session.specs.Session.{Names, Live, Session, withHeld, refuseIf}
+use Rattle.session.specs.Declaring.{withVocabulary, withTotal, withDiscount, withAction}
 use Rattle.session.specs.Facts.{cleared, objectsLine, placed, isLine, isFact, withFact, begunAgain, factLine, predicateOf, trueLine}
 use Rattle.session.specs.ModelLines.{withReward, rewardRead, rewardLine, withVariant, weightRead, variantLine, truthsNow, withTruth, truthRead, becomesLine, weighed}
-use Rattle.session.specs.Running.{withHeld, startLine}
+use Rattle.session.specs.Running.{startLine}
 use Rattle.session.specs.Replaying.{replayed, didLine}
-use Rattle.session.specs.Replies.{Reply, hasObjects, isPlaced, withVocabulary, withTotal, withDiscount, withAction, allowed, wordsOf, reply}
+use Rattle.session.specs.Replies.{Reply, hasObjects, isPlaced, allowed, wordsOf, reply}
 use Rattle.session_laws.specs.TextRuns.{isRefused, movesState}
 use Rattle.session_laws.specs.PlaceLaws.{in-run, did-placed}
 use Rattle.session_laws.specs.RunLaws.{made-by}
@@ -152,7 +153,7 @@ module _ (σ : Session) (number : ℕ) (es : List Event) where
     forTrue = λ l e a. let h = true-effect _ _ _ _ _ l e in tells refl refl (run K.True refl a) (h .0) (h .1) (h .2) (h .3);
     forValue = λ v e a. stays never refl;
     forBackup = λ h e a. stays never refl;
-    forCut = λ x e a. stays never refl;
+    forCut = λ h row edge left e d a. stays never refl;
     forReduce = λ h e a. stays never refl;
     forShow = λ a. stays never refl;
     forText = λ n e a. stays never refl;

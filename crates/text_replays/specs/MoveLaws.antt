@@ -21,10 +21,9 @@ use Rattle.replay.specs.AlikeLaws.{reward-alike}
 use Rattle.replay.specs.FactLaws.{facts-said, facts-count}
 use Rattle.text.specs.declared.Kind.the-variants as K
 use Rattle.text.specs.Line.{Words}
-use Rattle.session.specs.Session.{Session}
+use Rattle.session.specs.Session.{Session, withLive}
 use Rattle.session.specs.Running.{stateIn}
 use Rattle.session.specs.Replaying.{replayIn, replayed}
-use Rattle.session.specs.Replies.{withLive}
 use Rattle.text_moves.specs.Claims.{inHand}
 use Rattle.text_replays.specs.Claims.{didIn, weightOf, nextOf, factsOfNext, rewardsMet}
 use Rattle.replay.specs.LargeLaws.{large-alike}

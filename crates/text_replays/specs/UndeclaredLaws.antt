@@ -47,14 +47,14 @@ use Rattle.reading.specs.Reading.{arguments, reading}
 use Rattle.reading.specs.Head.{headNumber, headArguments}
 use Rattle.build.specs.Machine.{built}
 use Rattle.session.specs.declared.Part.the-variants.{Run}
-use Rattle.session.specs.Session.{Names, Live, Session, refuseIf, opening}
-use Rattle.session.specs.Declaring.{Vocabulary, constantLine, predicateLine, actionLine}
+use Rattle.session.specs.Session.{Names, Live, Session, opening, withHeld, refuseIf}
+use Rattle.session.specs.Declaring.{constantLine, Vocabulary, predicateLine, withVocabulary, withTotal, withDiscount, actionLine, withAction}
 use Rattle.session.specs.Facts.{cleared, objectsLine, placed, isLine, isFact, begunAgain, factLine, withFact, predicateOf, trueLine}
 use Rattle.session.specs.ModelLines.{mostModelRows, namesFor, rowsWith, withReward, rewardRead, rewardLine, addVariant, noTruths, withVariant, weightRead, variantLine}
 use Rattle.session.specs.ModelLines.{withTruthAt, lastTruths, lastVariant, truthsNow, isSome, withTruth, truthRead, becomesLine, weighed}
-use Rattle.session.specs.Running.{withHeld, stateIn, startLine}
+use Rattle.session.specs.Running.{stateIn, startLine}
 use Rattle.session.specs.Replaying.{didOf, replayIn, replayed, didLine}
-use Rattle.session.specs.Replies.{Reply, withVocabulary, withTotal, withDiscount, withAction, wordsOf, reply}
+use Rattle.session.specs.Replies.{Reply, wordsOf, reply}
 use Rattle.session.specs.Texts.{hasBytes, Progress, replied, afterLine, afterLines, beginning}
 use Rattle.model_laws.specs.ActionLaws.{every-more, every-mono}
 use Rattle.model_laws.specs.RowLaws.{number-few}
@@ -336,7 +336,7 @@ module _ (σ : Session) (whole : WholeRows (σ .live .facts)) (w : KnownIn σ) w
     forTrue = true-known _ _;
     forValue = λ v e. w;
     forBackup = λ h e. w;
-    forCut = λ x e. w;
+    forCut = λ h row edge left e d. w;
     forReduce = λ h e. w;
     forShow = w;
     forText = λ i e. w;

@@ -26,8 +26,8 @@ use Rattle.text.specs.Line.{lineBytes}
 use Rattle.text.specs.Line.Line.{line}
 use Rattle.answers.specs.declared.Answer.the-variants as A
 use Rattle.session.specs.declared.Part.the-variants.{Model as ModelPart, Run}
-use Rattle.session.specs.Session.{Session}
-use Rattle.session.specs.Replies.{Reply, withLive, refusal, reply}
+use Rattle.session.specs.Session.{Session, withLive}
+use Rattle.session.specs.Replies.{Reply, refusal, reply}
 use Rattle.session.specs.Texts.{replyBytes}
 use Rattle.session_laws.specs.LineAnswers.{valueLine, entryLines}
 

@@ -23,13 +23,14 @@ use Rattle.text.specs.declared.Kind.{Kind}
 use Rattle.text.specs.LineForm.{lineKind}
 use Rattle.events.specs.declared.Event.{Event}
 use Rattle.session.specs.declared.Part.the-variants.{Run}
-use Rattle.session.specs.Session.{Names, Live, Session, refuseIf, opening}
+use Rattle.session.specs.Session.{Names, Live, Session, opening, withHeld, refuseIf}
 use Rattle.replay.specs.Replay.{actionOf, did}
+use Rattle.session.specs.Declaring.{withVocabulary, withTotal, withDiscount, withAction}
 use Rattle.session.specs.Facts.{cleared, objectsLine, placed, isLine, isFact, begunAgain, factLine, withFact, predicateOf, trueLine}
 use Rattle.session.specs.Replaying.{variantNames, didOf, replayIn, didTo, didLine}
 use Rattle.session.specs.ModelLines.{withReward, rewardRead, rewardLine, withVariant, weightRead, variantLine, truthsNow, withTruth, truthRead, becomesLine, weighed}
-use Rattle.session.specs.Running.{withHeld, startLine}
-use Rattle.session.specs.Replies.{Reply, withVocabulary, withTotal, withDiscount, withAction, wordsOf, reply}
+use Rattle.session.specs.Running.{startLine}
+use Rattle.session.specs.Replies.{Reply, wordsOf, reply}
 use Rattle.session.specs.Texts.{hasBytes, Progress, replied, afterLine, afterLines, beginning}
 use Rattle.session_laws.specs.StateLaws.{objects-kept}
 use Rattle.session_laws.specs.RunLaws.{made-by}
@@ -140,7 +141,7 @@ module _ (σ : Session) (w : Rest (σ .names) (σ .live)) where
     forTrue = true-rest (σ .model .arities) (σ .names) (σ .live) w _ _;
     forValue = λ v e. w;
     forBackup = λ h e. w;
-    forCut = λ x e. w;
+    forCut = λ h row edge left e d. w;
     forReduce = λ h e. w;
     forShow = w;
     forText = λ n e. w;

@@ -1,6 +1,6 @@
 use lib.Dec.{lit≤}
 use borrow.Author.Needs.{needs}
-use Rattle.planner.proofs.HeldLaws.{replace-long, replace-there, replace-room, replace-holds, cut-able, cut-stays as held-stays, cut-wrote}
+use Rattle.planner.proofs.HeldLaws.{replace-long, replace-copies, replace-result, cut-able, cut-wrote}
 use Rattle.run_lines.proofs.CutLaws.{cut-left, cut-stays}
 use Rattle.run_lines.proofs.cut.Statement.{statement}
 use Rattle.run_lines.proofs.cut.Tie as tie
@@ -16,8 +16,7 @@ copy-requires c κs =
     let t = c .before .before .before .before .before .before .before .before .before .before .before .before .before .before .before .before .pre in
     let q = c .before .before .before .before .before .before .before .before .cut-checked .ensures in
     let d = c .before .before .before .r .given .1 in
-    let w = cut-wrote t (q .0) _ (q .1) d in
-    (replace-there t w, replace-room t w)
+    replace-copies t (cut-wrote t (q .0) _ (q .1) d)
 
 returns : tie.Need-returns
 returns c =
@@ -25,13 +24,13 @@ returns c =
     let d = c .before .before .before .before .before .before .before .r .given .1 in
     let u = c .before .before .before .copy in
     let t = c .before .before .before .before .before .before .before .before .before .before .before .before .before .before .before .before .before .before .before .before .pre in
-    cut-left (q .0) d (replace-holds t (cut-wrote t (q .0) _ (q .1) d) (u .ensures)) (u .kept .1 .1 .0) (c .running .ensures)
+    cut-left (q .0) d (replace-result t (cut-wrote t (q .0) _ (q .1) d) (u .ensures)) (u .kept .1 .1 .0) (c .running .ensures)
 
 returns-2 : tie.Need-returns-2
 returns-2 c =
     let q = c .before .before .before .before .before .before .cut-checked .ensures in
     let d = c .before .r2 .given .1 in
-    cut-stays (q .0) d (held-stays (c .before .before .before .before .before .before .before .before .before .before .before .before .before .before .pre) (q .0) d)
+    cut-stays (q .0) d
 
 pub cut-spec : {M : Type 1} → statement M
 cut-spec =

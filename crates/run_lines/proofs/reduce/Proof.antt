@@ -1,7 +1,7 @@
 use lib.Dec.{lit≤}
 use borrow.Author.Needs.{needs}
-use Rattle.planner.proofs.HeldLaws.{replace-long, replace-there, replace-room, replace-holds}
-use Rattle.run_lines.proofs.ReduceLaws.{reduce-able, reduce-wrote, reduce-left, reduce-refused}
+use Rattle.planner.proofs.HeldLaws.{replace-long, replace-copies, replace-result}
+use Rattle.run_lines.proofs.ReduceLaws.{reduce-able, reduce-wrote, reduce-left, reduce-stays}
 use Rattle.run_lines.proofs.reduce.Statement.{statement}
 use Rattle.run_lines.proofs.reduce.Tie as tie
 
@@ -16,8 +16,7 @@ copy-requires c κs =
     let t = c .before .before .before .before .before .before .before .before .before .before .before .before .before .before .before .before .pre in
     let q = c .before .before .before .before .before .before .before .before .reduce-checked .ensures in
     let d = c .before .before .before .r .given .1 in
-    let w = reduce-wrote t q d in
-    (replace-there t w, replace-room t w)
+    replace-copies t (reduce-wrote t q d)
 
 returns : tie.Need-returns
 returns c =
@@ -25,13 +24,13 @@ returns c =
     let d = c .before .before .before .before .before .before .before .r .given .1 in
     let u = c .before .before .before .copy in
     let t = c .before .before .before .before .before .before .before .before .before .before .before .before .before .before .before .before .before .before .before .before .pre in
-    reduce-left (q .answer) d (replace-holds t (reduce-wrote t q d) (u .ensures)) (u .kept .1 .1 .0) (c .running .ensures)
+    reduce-left (replace-result t (reduce-wrote t q d) (u .ensures)) (u .kept .1 .1 .0) (c .running .ensures)
 
 returns-2 : tie.Need-returns-2
 returns-2 c =
     let q = c .before .before .before .before .before .before .reduce-checked .ensures in
     let d = c .before .r2 .given .1 in
-    reduce-refused (q .answer) d
+    reduce-stays (q .answer) d
 
 pub reduce-spec : {M : Type 1} → statement M
 reduce-spec =
