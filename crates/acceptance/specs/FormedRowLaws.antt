@@ -7,11 +7,10 @@ use native.Mathlib.Omega.{arith}
 use lib.Dec.{ltb}
 use borrow.Author.Tests.{ltb-true}
 use Rattle.basics.specs.Tests.{Cmp, below, equal, above, cmp, Flag, isTrue, isFalse, flag, or-one, or-other}
-use Rattle.basics.specs.Members.{mem, Within}
+use Rattle.basics.specs.Members.{mem, Within, append-one, append-other}
 use Rattle.diagram.specs.Diagram.{Diagram, leaf, branch, same}
 use Rattle.diagram.specs.DiagramLaws.{same-refl}
 use Rattle.apply.specs.Apply.{node}
-use Rattle.apply.specs.Snoc.{append-one, append-other}
 use Rattle.regression.specs.Step.{labelTest}
 use Rattle.acceptance.specs.FormedRows.{threeDigits, lowLeaves, highLeaves, otherTest, stepRows, branchRows, formedRows}
 

@@ -11,6 +11,7 @@ use lib.Dec.{eqb, ltb}
 use borrow.Author.Tests.{ltb-false, lt-ltb, le-ltb}
 use Rattle.basics.specs.Tests.{Flag, isTrue, isFalse, flag, Either, one, other, neither}
 use Rattle.basics.specs.Members.{mem, clash}
+use Rattle.basics.specs.Prefix.{Prefix}
 use Rattle.label.specs.Limits.{firstVariable, variableCount, firstMinimum, minimumCount}
 use Rattle.refusal.specs.declared.Refusal.the-variants.{Variables, Space}
 use Rattle.table.specs.Table.{buckets}
@@ -22,7 +23,7 @@ use Rattle.diagram.specs.Listing.{listing, diagramOf, Fine, Good}
 use Rattle.diagram.specs.Validity.{tree}
 use Rattle.diagram.specs.Variables.{variables, minimums, closedFrom, closed, after}
 use Rattle.diagram.specs.RowLists.{isPart}
-use Rattle.diagram.specs.RowLaws.{onto-mem, onto-from, onto-most, onto-kept, kept-none, row-mem}
+use Rattle.diagram.specs.RowLaws.{onto-mem, onto-from, onto-most, onto-kept, kept-none, row-mem, onto-keeps}
 use Rattle.diagram.specs.ListingOfDiagram.{part-fine}
 use Rattle.diagram.specs.DiagramOfListing.{good-diagram}
 use Rattle.listing.specs.Used.{Used, setFrom, markedVariables, markedMinimums}
@@ -33,15 +34,13 @@ use Rattle.apply.specs.declared.Names.the-variants.{Apart}
 use Rattle.apply.specs.declared.Combined.{Combined}
 use Rattle.apply.specs.declared.Combined.the-variants.{Refused}
 use Rattle.apply.specs.Apply.{apply}
-use Rattle.apply.specs.RowLaws.{onto-begins}
-use Rattle.apply.specs.Snoc.{Begins}
 use Rattle.apply.specs.Combination.{operate, combination, tooMany, operandRows, diagramAnswer, written}
 use Rattle.apply.specs.CombinationLaws.{rows-formed, diagrams-variables}
 use Rattle.store.specs.declared.Formed.{Formed}
 use Rattle.store.specs.declared.Formed.the-variants.{Row, Full}
 use Rattle.store.specs.Space.{diagramsOf, Formation}
 use Rattle.store.proofs.SpaceLaws.{length-diagrams, diagram-at, diagrams-none, holds-none, formation-row, formation-full, formation-tree, formation-old}
-use Rattle.combine.specs.Calls.{Callable, Answered}
+use Rattle.combine.specs.Calls.{Callable, CombineAnswered}
 use Rattle.apart.specs.declared.Aside.{Aside}
 use Rattle.apart.specs.declared.Aside.the-variants.{From, TooMany}
 use Rattle.apart.specs.Operands.{Enterable, asideOf, Separable}
@@ -122,7 +121,7 @@ module _ {ar x y usedX usedY : List ℕ} {first minimum : ℕ} {out work : List 
         subst (λ (d : Diagram). Formation d (onto d []) r₁ s₁ h₁ l₁) (closed-is ar D)
         (subst (λ (rs : List Diagram). Formation (closedFrom ar firstVariable firstMinimum D) (onto (closedFrom ar firstVariable firstMinimum D) rs) r₁ s₁ h₁ l₁) (diagrams-none work) f)
 
-    pub moved-full : (op : Operation) → r₁ ≡ Full → Answered op Apart ar x y out (Refused Space) out
+    pub moved-full : (op : Operation) → r₁ ≡ Full → CombineAnswered op Apart ar x y out (Refused Space) out
     moved-full op e =
         let z = formation-full (subst (λ (r : Formed). Formation A (onto A []) r s₁ h₁ l₁) e first-formed) in
         absurd (omega (arith, few-a))
@@ -150,7 +149,7 @@ module _ {ar x y usedX usedY : List ℕ} {first minimum : ℕ} {out work : List 
             subst (λ (d : Diagram). Formation d (onto d (onto A [])) r₂ s₂ h₂ l₂) (ap₂ (λ (m n : ℕ). closedFrom ar m n E) (g .first-is) (g .minimum-is) ∙ after-is ar D E)
             (subst (λ (rs : List Diagram). Formation (closedFrom ar first minimum E) (onto (closedFrom ar first minimum E) rs) r₂ s₂ h₂ l₂) first-rows f′)
 
-        pub moved-full-2 : (op : Operation) → r₂ ≡ Full → Answered op Apart ar x y out (Refused Space) out
+        pub moved-full-2 : (op : Operation) → r₂ ≡ Full → CombineAnswered op Apart ar x y out (Refused Space) out
         moved-full-2 op e′ =
             let z = formation-full (subst (λ (r : Formed). Formation B (onto B (onto A [])) r s₂ h₂ l₂) e′ second-formed) in
             absurd (omega (arith, few-b))
@@ -162,8 +161,8 @@ module _ {ar x y usedX usedY : List ℕ} {first minimum : ℕ} {out work : List 
           second-rows : diagramsOf s₂ m ≡ onto B (onto A [])
           second-rows = formation-row second-row .3
 
-          begins : Begins (diagramsOf s₁ n) (onto B (onto A []))
-          begins = rw first-rows (onto-begins B (onto A []))
+          begins : Prefix (diagramsOf s₁ n) (onto B (onto A []))
+          begins = rw first-rows (onto-keeps B (onto A []))
 
           second-tree : (j < m) × (tree s₂ j ≡ B)
           second-tree = formation-tree second-row (onto-mem B (onto A []))
@@ -203,7 +202,7 @@ module _ {ar x y usedX usedY : List ℕ} {first minimum : ℕ} {out work : List 
           }
 
           pub moved-done : {op : Operation} {r : Combined} {out′ : List ℕ} → JoinedUp op ar (tree s₂ i) (tree s₂ j) (diagramsOf s₂ m) out r out′
-              → Answered op Apart ar x y out r out′
+              → CombineAnswered op Apart ar x y out r out′
           moved-done {op} {r} {out′} w =
               let z : JoinedUp op ar A B (operandRows Apart ar D E) out r out′
               = subst (λ (rs : List Diagram). JoinedUp op ar A B rs out r out′) second-rows
@@ -279,10 +278,10 @@ module _ {ar x y out work : List ℕ} (g : Callable ar x y out work) {usedX used
         marked-minimums ar (diagramOf y) usedY v,
       )
 
-  pub apart-many : (op : Operation) → s ≡ TooMany → Answered op Apart ar x y out (Refused Variables) out
+  pub apart-many : (op : Operation) → s ≡ TooMany → CombineAnswered op Apart ar x y out (Refused Variables) out
   apart-many op e = go (flag many)
     where
-      go : Flag many → Answered op Apart ar x y out (Refused Variables) out
+      go : Flag many → CombineAnswered op Apart ar x y out (Refused Variables) out
       go (isTrue h) = record { answer = sym (diagrams-variables op Apart ar (diagramOf x) (diagramOf y) h); words = refl }
       go (isFalse h) = absurd (let d : s ≡ From _ _ = rw h at judged in let z : _≡_ {A = ℕ} 0 1 = cc in omega arith)
 

@@ -17,7 +17,7 @@ ghost use Rattle.diagram.specs.Variables.{closedFrom, closed};
 ghost use Rattle.apply.specs.declared.Names.the-variants.{Apart};
 ghost use Rattle.store.specs.Space.{diagramsOf, Formation};
 ghost use Rattle.write.specs.Renaming.{listedIn};
-ghost use Rattle.combine.specs.Calls.{Callable, Answered};
+ghost use Rattle.combine.specs.Calls.{Callable, CombineAnswered};
 ghost use Rattle.label.specs.Limits.{termEnd};
 ghost use Rattle.apart.specs.Operands.{Enterable, asideOf, Separable};
 ghost use Rattle.apart.specs.Results.{Closable, Writable, ResultWritten, Joinable, JoinedUp};
@@ -173,7 +173,7 @@ fn combine_moved(
     work: &mut [u64],
 ) -> Combined
     requires { ⌜ Separable (now arities) (now x) (now y) (now usedx) (now usedy) first minimum (now out) (now work) ⌝ }
-    ensures { λ r. ⌜ Answered op Apart (now (arities .entry)) (now (x .entry)) (now (y .entry)) (now (out .entry)) r (now (out .exit)) ⌝ }
+    ensures { λ r. ⌜ CombineAnswered op Apart (now (arities .entry)) (now (x .entry)) (now (y .entry)) (now (out .entry)) r (now (out .exit)) ⌝ }
 {
     let mut heads = [0u16; table::BUCKETS];
     let mut links = [0u16; diagram::SPACE_ROWS];
@@ -242,7 +242,7 @@ pub fn combine_apart(
     work: &mut [u64],
 ) -> Combined
     requires { ⌜ Callable (now arities) (now x) (now y) (now out) (now work) ⌝ }
-    ensures { λ r. ⌜ Answered op Apart (now (arities .entry)) (now (x .entry)) (now (y .entry)) (now (out .entry)) r (now (out .exit)) ⌝ }
+    ensures { λ r. ⌜ CombineAnswered op Apart (now (arities .entry)) (now (x .entry)) (now (y .entry)) (now (out .entry)) r (now (out .exit)) ⌝ }
 {
     let mut usedx = [0u64; TERMS];
     let mut usedy = [0u64; TERMS];

@@ -6,12 +6,12 @@ use Prim.Native.Nat.{ℕ}
 use native.Mathlib.Omega.{arith}
 use lib.ListN.{length}
 use Rattle.basics.specs.Tests.{Flag, isTrue, isFalse, flag, Either, one, other, either, or-one, or-other}
-use Rattle.basics.specs.Members.{mem, NoDup, Within, nodup-le, clash}
+use Rattle.basics.specs.Members.{mem, NoDup, Within, nodup-le, clash, mem-snoc, snoc-cases, nodup-snoc}
+use Rattle.basics.specs.Prefix.{Prefix, prefix-refl, prefix-trans, prefix-snoc, mem-prefix}
 use Rattle.diagram.specs.Diagram.{Diagram, leaf, branch, same}
 use Rattle.diagram.specs.Rows.{onto, rows}
 use Rattle.diagram.specs.DiagramLaws.{same-eq, diagram-test, onto-old, onto-leaf, onto-branch}
 use Rattle.diagram.specs.RowLaws.{onto-mem, onto-fresh}
-use Rattle.apply.specs.Snoc.{mem-snoc, snoc-cases, nodup-snoc, Begins, begins-refl, begins-trans, begins-snoc, mem-begins}
 use Rattle.apply.specs.declared.Operation.{Operation}
 use Rattle.apply.specs.Apply.{node, apply}
 use Rattle.apply.specs.Pairs.{Pair, samePair, ends, pairs}
@@ -60,12 +60,12 @@ add-mem d rs = go (flag (mem same d rs))
     go (isTrue e) = rw (add-old d rs e) e
     go (isFalse e) = rw (add-new d rs e) (mem-snoc same diagram-test d rs)
 
-pub add-begins : (d : Diagram) (rs : List Diagram) → Begins rs (add d rs)
+pub add-begins : (d : Diagram) (rs : List Diagram) → Prefix rs (add d rs)
 add-begins d rs = go (flag (mem same d rs))
   where
-    go : Flag (mem same d rs) → Begins rs (add d rs)
-    go (isTrue e) = rw (add-old d rs e) (begins-refl rs)
-    go (isFalse e) = rw (add-new d rs e) (begins-snoc rs d)
+    go : Flag (mem same d rs) → Prefix rs (add d rs)
+    go (isTrue e) = rw (add-old d rs e) (prefix-refl rs)
+    go (isFalse e) = rw (add-new d rs e) (prefix-snoc rs d)
 
 pub add-cases : (x d : Diagram) (rs : List Diagram) → mem same x (add d rs) ≡ true → Either (mem same x rs) (same x d)
 add-cases x d rs h = go (flag (mem same d rs))
@@ -81,14 +81,13 @@ add-nodup d rs h = go (flag (mem same d rs))
     go (isTrue e) = rw (add-old d rs e) h
     go (isFalse e) = rw (add-new d rs e) (nodup-snoc same diagram-test rs d h e)
 
-pub formed-begins : (op : ℕ → ℕ → ℕ) (rs : List Diagram) (ps : List Pair) → Begins rs (formed op rs ps)
-formed-begins op rs [] = rw (formed-none op rs) (begins-refl rs)
+pub formed-begins : (op : ℕ → ℕ → ℕ) (rs : List Diagram) (ps : List Pair) → Prefix rs (formed op rs ps)
+formed-begins op rs [] = rw (formed-none op rs) (prefix-refl rs)
 formed-begins op rs (p ∷ ps) =
-    rw (formed-cons op rs p ps) (begins-trans rs (add (apply op (p .0) (p .1)) rs) (formed op (add (apply op (p .0) (p .1)) rs) ps)
-    (add-begins (apply op (p .0) (p .1)) rs) (formed-begins op (add (apply op (p .0) (p .1)) rs) ps))
+    rw (formed-cons op rs p ps) (prefix-trans (add-begins (apply op (p .0) (p .1)) rs) (formed-begins op (add (apply op (p .0) (p .1)) rs) ps))
 
 pub formed-keeps : (op : ℕ → ℕ → ℕ) (rs : List Diagram) (ps : List Pair) → Within same rs (formed op rs ps)
-formed-keeps op rs ps x h = mem-begins same diagram-test x rs (formed op rs ps) (formed-begins op rs ps) h
+formed-keeps op rs ps x h = mem-prefix same x (formed-begins op rs ps) h
 
 pub formed-nodup : (op : ℕ → ℕ → ℕ) (rs : List Diagram) (ps : List Pair) → NoDup same rs → NoDup same (formed op rs ps)
 formed-nodup op rs [] h = rw (formed-none op rs) h

@@ -43,7 +43,7 @@
 --   zero-count: so there are no more pairs than before; zero-overflows: 11 has the same condition; zero-rows: and 9
 --   answer-kept: a call met 10 before, or its answer is what it was but for the count of pairs
 --
--- Visit, Walk, Course and Snoc are for proofs: the walk in its order, the views over which laws recurse, lists that grow at the end.
+-- Visit, Walk and Course are for proofs: the walk in its order, the views over which laws recurse.
 
 -- definitions
 pub mod Apply
@@ -53,7 +53,6 @@ pub mod Formed
 pub mod Combination
 pub mod Before
 -- laws
-pub mod Snoc
 pub mod Walk
 pub mod ApplyLaws
 pub mod Course

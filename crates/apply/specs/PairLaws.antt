@@ -7,10 +7,9 @@ use native.Mathlib.Omega.{arith}
 use lib.ListN.{length}
 use borrow.Author.Tests.{le-leb, lt-leb}
 use Rattle.basics.specs.Tests.{Cmp, below, equal, above, cmp, and-left, and-right, Either, one, other, either, or-one, or-other}
-use Rattle.basics.specs.Members.{IsTest, mem, NoDup, nodup-count, clash}
+use Rattle.basics.specs.Members.{IsTest, mem, NoDup, nodup-count, clash, append-cases, append-one, append-other}
 use Rattle.diagram.specs.Diagram.{Diagram, leaf, branch, same}
 use Rattle.diagram.specs.DiagramLaws.{same-eq, same-refl}
-use Rattle.apply.specs.Snoc.{append-cases, append-one, append-other}
 use Rattle.apply.specs.declared.Operation.{Operation}
 use Rattle.apply.specs.Pairs.{Pair, samePair, ends, descend, successor, ClosedPairs, LeastPairs, pairs, pairCount}
 use Rattle.apply.specs.Walk.{Below, Step, left, right, both}

@@ -5,21 +5,16 @@ use mathlib.Core.List.{List, [], _∷_, _++_}
 use Prim.Native.Nat.{ℕ}
 use native.Mathlib.Omega.{arith}
 use Rattle.basics.specs.Tests.{Flag, isTrue, isFalse, flag, Either, one, other}
-use Rattle.basics.specs.Members.{mem, NoDup, clash}
+use Rattle.basics.specs.Members.{mem, NoDup, clash, append-one, snoc-cases, nodup-snoc}
 use Rattle.diagram.specs.Diagram.{Diagram, leaf, branch, same}
 use Rattle.diagram.specs.Rows.{onto, rows}
 use Rattle.diagram.specs.DiagramLaws.{same-eq, diagram-test, onto-old, onto-leaf, onto-branch}
-use Rattle.diagram.specs.RowLaws.{onto-mem, onto-keeps, onto-keeps-mem, onto-fresh}
-use Rattle.apply.specs.Snoc.{Begins, mem-more, snoc-cases, nodup-snoc}
+use Rattle.diagram.specs.RowLaws.{onto-mem, onto-keeps-mem, onto-fresh}
 use Rattle.apply.specs.Formed.{ClosedRows}
 
 pub rows-onto : (d : Diagram) → rows d ≡ onto d []
 unfolding rows
 rows-onto d = refl
-
--- a walk only adds
-pub onto-begins : (d : Diagram) (rs : List Diagram) → Begins rs (onto d rs)
-onto-begins d rs = let g = onto-keeps d rs in record { rest = g .more; whole = g .is }
 
 -- no row is repeated
 pub onto-nodup : (d : Diagram) (rs : List Diagram) → NoDup same rs → NoDup same (onto d rs)
@@ -43,14 +38,14 @@ leaf-snoc v rs c = record { children = λ l t f h. go l t f (snoc-cases same (br
   where
     go : (l : ℕ) (t f : Diagram) → Either (mem same (branch l t f) rs) (same (branch l t f) (leaf v))
         → (mem same t (rs ++ (leaf v ∷ [])) ≡ true) × (mem same f (rs ++ (leaf v ∷ [])) ≡ true)
-    go l t f (one e) = let k = c .children l t f e in (mem-more same t (leaf v) rs (k .0), mem-more same f (leaf v) rs (k .1))
+    go l t f (one e) = let k = c .children l t f e in (append-one same t rs (leaf v ∷ []) (k .0), append-one same f rs (leaf v ∷ []) (k .1))
     go l t f (other e) = let z : branch l t f ≡ leaf v = same-eq (branch l t f) (leaf v) e in let o : _≡_ {A = ℕ} 0 1 = cc in absurd (omega arith)
 
 branch-snoc : (l : ℕ) (t f : Diagram) (rs : List Diagram) → ClosedRows rs → mem same t rs ≡ true → mem same f rs ≡ true → ClosedRows (rs ++ (branch l t f ∷ []))
 branch-snoc l t f rs c x y = record { children = λ k u g h. go k u g (snoc-cases same (branch k u g) (branch l t f) rs h) }
   where
     more : (d : Diagram) → mem same d rs ≡ true → mem same d (rs ++ (branch l t f ∷ [])) ≡ true
-    more d h = mem-more same d (branch l t f) rs h
+    more d h = append-one same d rs (branch l t f ∷ []) h
 
     go : (k : ℕ) (u g : Diagram) → Either (mem same (branch k u g) rs) (same (branch k u g) (branch l t f))
         → (mem same u (rs ++ (branch l t f ∷ [])) ≡ true) × (mem same g (rs ++ (branch l t f ∷ [])) ≡ true)

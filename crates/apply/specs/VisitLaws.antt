@@ -6,10 +6,10 @@ use Prim.Native.Nat.{ℕ, _+_, _≤_}
 use native.Mathlib.Omega.{arith}
 use lib.ListN.{length}
 use Rattle.basics.specs.Tests.{Cmp, below, equal, above, cmp, Flag, isTrue, isFalse, flag, Either, one, other}
-use Rattle.basics.specs.Members.{mem, NoDup, Within, clash}
+use Rattle.basics.specs.Members.{mem, NoDup, Within, clash, mem-snoc, append-one, snoc-cases, nodup-snoc}
+use Rattle.basics.specs.Prefix.{Prefix, prefix-refl, prefix-trans, prefix-snoc, mem-prefix}
 use Rattle.diagram.specs.Diagram.{Diagram, leaf, branch}
 use Rattle.diagram.specs.RowLists.{size}
-use Rattle.apply.specs.Snoc.{Begins, begins-refl, begins-trans, begins-snoc, mem-more, mem-snoc, mem-begins, snoc-cases, nodup-snoc}
 use Rattle.apply.specs.declared.Operation.{Operation}
 use Rattle.apply.specs.Pairs.{Pair, samePair, ends, successor, ClosedPairs, LeastPairs, pairs, pairCount}
 use Rattle.apply.specs.Visit.{visit}
@@ -75,7 +75,7 @@ module _ (op : Operation) where
 
   -- the walk only adds
   abbrev Grows : Diagram → Diagram → Type 0
-  Grows a b = (done : List Pair) → Begins done (visit op a b done)
+  Grows a b = (done : List Pair) → Prefix done (visit op a b done)
 
   grows-step : {l : ℕ} {a b t u f g : Diagram} → ends op a b ≡ false → Step l a b t u f g → Grows t u → Grows f g → Grows a b
   grows-step {a = a} {b = b} {t = t} {u = u} {f = f} {g = g} n s x y done = go (flag (mem samePair (a, b) done))
@@ -83,28 +83,27 @@ module _ (op : Operation) where
       inner : List Pair
       inner = visit op f g (visit op t u done)
 
-      go : Flag (mem samePair (a, b) done) → Begins done (visit op a b done)
-      go (isTrue e) = rw (visit-old a b done e) (begins-refl done)
+      go : Flag (mem samePair (a, b) done) → Prefix done (visit op a b done)
+      go (isTrue e) = rw (visit-old a b done e) (prefix-refl done)
       go (isFalse e) =
-          rw (visit-step done n s e) (begins-trans done inner (inner ++ ((a, b) ∷ [])) (begins-trans done (visit op t u done) inner (x done) (y (visit op t u done)))
-          (begins-snoc inner (a, b)))
+          rw (visit-step done n s e) (prefix-trans (prefix-trans (x done) (y (visit op t u done))) (prefix-snoc inner (a, b)))
 
   grows-stop : (a b : Diagram) → ends op a b ≡ true → Grows a b
   grows-stop a b n done = go (flag (mem samePair (a, b) done))
     where
-      go : Flag (mem samePair (a, b) done) → Begins done (visit op a b done)
-      go (isTrue e) = rw (visit-old a b done e) (begins-refl done)
-      go (isFalse e) = rw (visit-stop a b done n e) (begins-snoc done (a, b))
+      go : Flag (mem samePair (a, b) done) → Prefix done (visit op a b done)
+      go (isTrue e) = rw (visit-old a b done e) (prefix-refl done)
+      go (isFalse e) = rw (visit-stop a b done n e) (prefix-snoc done (a, b))
 
   grows-course : {a b : Diagram} → Course op a b → Grows a b
   grows-course (stops {a = a} {b = b} n) done = grows-stop a b n done
   grows-course (descends n s x y) done = grows-step n s (grows-course x) (grows-course y) done
 
-  pub visit-begins : (a b : Diagram) (done : List Pair) → Begins done (visit op a b done)
+  pub visit-begins : (a b : Diagram) (done : List Pair) → Prefix done (visit op a b done)
   visit-begins a b done = grows-course (course op a b) done
 
   pub visit-keeps : (a b : Diagram) (done : List Pair) → Within samePair done (visit op a b done)
-  visit-keeps a b done p h = mem-begins samePair pair-test p done (visit op a b done) (visit-begins a b done) h
+  visit-keeps a b done p h = mem-prefix samePair p (visit-begins a b done) h
 
   -- it finishes the pair itself
   root-new : {a b : Diagram} → Course op a b → (done : List Pair) → mem samePair (a, b) done ≡ false → mem samePair (a, b) (visit op a b done) ≡ true
@@ -163,7 +162,7 @@ module _ (op : Operation) where
   -- a closed set stays closed
   pub closed-snoc : (m : List Pair) (p : Pair) → ClosedPairs op m → (ends op (p .0) (p .1) ≡ false → (w : Bool) → mem samePair (successor w p) m ≡ true)
       → ClosedPairs op (m ++ (p ∷ []))
-  closed-snoc m p c k = record { successors = λ q h n w. mem-more samePair (successor w q) p m (go q n w (snoc-cases samePair q p m h)) }
+  closed-snoc m p c k = record { successors = λ q h n w. append-one samePair (successor w q) m (p ∷ []) (go q n w (snoc-cases samePair q p m h)) }
     where
       go : (q : Pair) → ends op (q .0) (q .1) ≡ false → (w : Bool) → Either (mem samePair q m) (samePair q p) → mem samePair (successor w q) m ≡ true
       go q n w (one e) = c .successors q e n w

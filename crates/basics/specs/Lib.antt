@@ -5,6 +5,7 @@
 --   mem == x is one of the list, by a test of equality
 --   nub == the list with each element once: of equal ones the last
 --   Within == every member of the first list is one of the second
+--   Prefix == the second list is the first with more behind it
 --
 -- For proofs
 --   Flag, flag == a test is true or false, with the equation
@@ -20,3 +21,4 @@
 
 pub mod Tests
 pub mod Members
+pub mod Prefix

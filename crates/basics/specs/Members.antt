@@ -1,11 +1,11 @@
 -- Lists without repeats, by a Bool test of equality: membership, nub, counts.
 use mathlib.Core.Path.{_≡_, refl, ap, sym, _∙_}
-use mathlib.Core.Bool.{Bool, true, false, _||_, true≢false, or-true, or-assoc}
+use mathlib.Core.Bool.{Bool, true, false, _||_, true≢false, or-false, or-true, or-assoc}
 use mathlib.Core.List.{List, [], _∷_, _++_}
 use Prim.Native.Nat.{suc, _+_, _≤_, zero-le}
 use native.Mathlib.Omega.{arith}
 use lib.ListN.{length}
-use Rattle.basics.specs.Tests.{Flag, isTrue, isFalse, flag}
+use Rattle.basics.specs.Tests.{Flag, isTrue, isFalse, flag, Either, one, other, either, or-one, or-other}
 
 -- a test that tells equal things from others
 pub record IsTest {A : Type 0} (eq : A → A → Bool) : Type 0 where
@@ -54,11 +54,59 @@ module _ {A : Type 0} (eq : A → A → Bool) where
   mem-append x [] m = refl
   mem-append x (y ∷ ys) m = rw (mem-append x ys m) (sym (or-assoc (eq x y) (mem x ys) (mem x m)))
 
+  pub append-one : (x : A) (l m : List A) → mem x l ≡ true → mem x (l ++ m) ≡ true
+  append-one x l m h = rw (mem-append x l m) (or-one _ _ h)
+
+  pub append-other : (x : A) (l m : List A) → mem x m ≡ true → mem x (l ++ m) ≡ true
+  append-other x l m h = rw (mem-append x l m) (or-other (mem x l) _ h)
+
+  pub append-cases : (x : A) (l m : List A) → mem x (l ++ m) ≡ true → Either (mem x l) (mem x m)
+  append-cases x l m h = either (mem x l) (mem x m) (rw (mem-append x l m) at h)
+
+  -- a member of a list with one more at the end
+  pub snoc-cases : (y x : A) (l : List A) → mem y (l ++ (x ∷ [])) ≡ true → Either (mem y l) (eq y x)
+  snoc-cases y x l h = go (append-cases y l (x ∷ []) h)
+    where
+      go : Either (mem y l) (mem y (x ∷ [])) → Either (mem y l) (eq y x)
+      go (one e) = one e
+      go (other e) = other (rw or-false at e)
+
 -- a test that fails is not one that holds
 pub clash : {A : Type 0} {b : Bool} → b ≡ true → b ≡ false → A
 clash p q = absurd (true≢false (sym p ∙ q))
 
 module _ {A : Type 0} (eq : A → A → Bool) (law : IsTest eq) where
+  pub eq-flip : (x y : A) → eq x y ≡ false → eq y x ≡ false
+  eq-flip x y e = go (flag (eq y x))
+    where
+      go : Flag (eq y x) → eq y x ≡ false
+      go (isTrue d) = clash (law .complete x) (ap (eq x) (sym (law .sound y x d)) ∙ e)
+      go (isFalse d) = d
+
+  -- one more at the end
+  pub mem-snoc : (x : A) (l : List A) → mem eq x (l ++ (x ∷ [])) ≡ true
+  mem-snoc x l = append-other eq x l (x ∷ []) (or-one _ _ (law .complete x))
+
+  pub nodup-snoc : (l : List A) (x : A) → NoDup eq l → mem eq x l ≡ false → NoDup eq (l ++ (x ∷ []))
+  nodup-snoc [] x d e = (refl, tt)
+  nodup-snoc (y ∷ ys) x d e = (outer (flag (mem eq y (ys ++ (x ∷ [])))), nodup-snoc ys x (d .1) (later (flag (mem eq x ys))))
+    where
+      later : Flag (mem eq x ys) → mem eq x ys ≡ false
+      later (isTrue q) = clash (or-other (eq x y) _ q) e
+      later (isFalse q) = q
+
+      apart : Flag (eq x y) → eq y x ≡ false
+      apart (isTrue q) = clash (or-one (eq x y) (mem eq x ys) q) e
+      apart (isFalse q) = eq-flip x y q
+
+      split : Either (mem eq y ys) (eq y x) → ⊥
+      split (one q) = clash q (d .0)
+      split (other q) = clash q (apart (flag (eq x y)))
+
+      outer : Flag (mem eq y (ys ++ (x ∷ []))) → mem eq y (ys ++ (x ∷ [])) ≡ false
+      outer (isTrue q) = absurd (split (snoc-cases eq y x ys q))
+      outer (isFalse q) = q
+
   pub mem-nub : (x : A) (l : List A) → mem eq x (nub eq l) ≡ mem eq x l
   unfolding nub
   mem-nub x [] = refl

@@ -22,11 +22,11 @@ use Rattle.rename.specs.VariableLaws.{occurs-term}
 use Rattle.state.specs.State.{meaning}
 use Rattle.state.specs.Terms.{Terms}
 use Rattle.state.specs.ValueLaws.{Terms-mono}
+use Rattle.minimum.specs.OccurLaws.{terms-occur, occur-terms}
 use Rattle.regression.specs.Result.{AtMost}
 use Rattle.regression.specs.Parameters.{Within}
 use Rattle.regression.specs.RegressCall.{leafAbove, anyOccurs, unboundVariable}
 use Rattle.regression.specs.RegressCallLaws.{above-leaf, above-branch, above-most, any-quiet, quiet-any}
-use Rattle.regression.specs.NextLaws.{occur-terms, terms-occur}
 use Rattle.mdp.specs.Model.{GoodTruthDiagram, mostVariants}
 use Rattle.mdp.specs.CallLaws.{within-each, each-within}
 use Rattle.model.specs.Layout.{actionWords, variantPlace, weightWords, variantsOf}

@@ -25,7 +25,7 @@ use Rattle.apply.specs.declared.Combined.{Combined}
 use Rattle.apply.specs.declared.Combined.the-variants.{Refused}
 use Rattle.apply.specs.Combination.{combination, doneAs, combineAnswer, combineResult, written}
 use Rattle.apply.specs.CombinationLaws.{answer-first, answer-second, answer-buffer, answer-diagrams, result-refused}
-use Rattle.combine.specs.Calls.{Callable, Answered}
+use Rattle.combine.specs.Calls.{Callable, CombineAnswered}
 
 -- `if !test(..)`
 passed : {b x : Bool} → b ≡ x → not b ≡ false → x ≡ true
@@ -94,7 +94,7 @@ module _ (op : Operation) (names : Names) (ar x y out work : List ℕ) where
           pub call-able : Callable ar x y out work
           call-able = record { first = listing-is-valid ar x (passed e f); second = listing-is-valid ar y (passed d g); out-room = h; work-room = k }
 
-          pub call-done : {r : Combined} {out′ : List ℕ} → Answered op (doneAs op names ar (diagramOf x) (diagramOf y)) ar x y out r out′
+          pub call-done : {r : Combined} {out′ : List ℕ} → CombineAnswered op (doneAs op names ar (diagramOf x) (diagramOf y)) ar x y out r out′
               → Promised op names ar x y out work r out′
           unfolding combineResult
           call-done {r} {out′} a =
@@ -104,6 +104,6 @@ module _ (op : Operation) (names : Names) (ar x y out work : List ℕ) where
               (z, a .words ∙ ap (λ (q : Combined). written q (listing (combination op n ar (diagramOf x) (diagramOf y))) out) z)
 
 -- the arm of the match that names n
-pub call-named : {op : Operation} {m n p : Names} {ar x y out : List ℕ} {r : Combined} {out′ : List ℕ} → m ≡ p → m ≡ n → Answered op n ar x y out r out′
-    → Answered op p ar x y out r out′
-call-named {op} {m} {n} {p} {ar} {x} {y} {out} {r} {out′} q e a = subst (λ (k : Names). Answered op k ar x y out r out′) (sym e ∙ q) a
+pub call-named : {op : Operation} {m n p : Names} {ar x y out : List ℕ} {r : Combined} {out′ : List ℕ} → m ≡ p → m ≡ n → CombineAnswered op n ar x y out r out′
+    → CombineAnswered op p ar x y out r out′
+call-named {op} {m} {n} {p} {ar} {x} {y} {out} {r} {out′} q e a = subst (λ (k : Names). CombineAnswered op k ar x y out r out′) (sym e ∙ q) a

@@ -38,7 +38,7 @@ use Rattle.store.proofs.SpaceLaws.{holds-none, diagrams-none, length-diagrams}
 use Rattle.combine.specs.RowPairs.{Operand}
 use Rattle.combine.specs.Paired.{Pairable}
 use Rattle.combine.specs.Joining.{joinAnswer, countAfter, diagramsAfter, Joint}
-use Rattle.combine.specs.Calls.{few, Answered}
+use Rattle.combine.specs.Calls.{few, CombineAnswered}
 use Rattle.combine.specs.declared.Joined.{Joined}
 use Rattle.combine.specs.declared.Joined.the-variants.{At, TooManyPairs, TooHighValue, NoRoom}
 use Rattle.combination.specs.Finishing.{rowsIn, finishAnswer, finishWords, Finishable, Finished}
@@ -206,7 +206,7 @@ shared-finishable {op} {limit} {x} {y} {work} {r} {s} {out} j h = record { there
     there NoRoom k = omega arith
 
 pub shared-out : (op : Operation) (ar x y : List ℕ) {work out : List ℕ} {r : Joined} {s : List ℕ} {q : Combined} {out′ : List ℕ}
-    → SharedIn op mostPairs x y work r s → Finished r s out q out′ → Answered op Shared ar x y out q out′
+    → SharedIn op mostPairs x y work r s → Finished r s out q out′ → CombineAnswered op Shared ar x y out q out′
 unfolding finishWords
 shared-out op ar x y {work} {out} {r} {s} {q} {out′} j f = record {
   answer = f .answer ∙ ap finishAnswer (j .answer) ∙ answer-is op ar (diagramOf x) (diagramOf y);

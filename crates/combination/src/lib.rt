@@ -14,7 +14,7 @@ ghost use Rattle.apply.specs.Combination.{doneAs, combineAnswer, combineResult}
 ghost use Rattle.apply.specs.declared.Operation.the-variants.{Max};
 ghost use Rattle.apply.specs.declared.Names.the-variants.{Shared};
 ghost use Rattle.combine.specs.declared.Joined.the-variants.{At};
-ghost use Rattle.combine.specs.Calls.{few, Callable, Answered};
+ghost use Rattle.combine.specs.Calls.{few, Callable, CombineAnswered};
 ghost use Rattle.combination.specs.Finishing.{Finishable, Finished};
 ghost use Rattle.combination.specs.Sharing.{Operands, SharedIn};
 ghost use Rattle.diagram.specs.Sizes.{mostPairs};
@@ -108,7 +108,7 @@ fn combine_many(
     work: &mut [u64],
 ) -> Combined
     requires { ⌜ Callable (now arities) (now x) (now y) (now out) (now work) ⌝ }
-    ensures { λ r. ⌜ Answered op Shared (now (arities .entry)) (now (x .entry)) (now (y .entry)) (now (out .entry)) r (now (out .exit)) ⌝ }
+    ensures { λ r. ⌜ CombineAnswered op Shared (now (arities .entry)) (now (x .entry)) (now (y .entry)) (now (out .entry)) r (now (out .exit)) ⌝ }
 {
     let r = shared_many(op, arities, x, y, work);
     finish(r, work, out)
@@ -125,7 +125,7 @@ pub fn combine_shared(
     work: &mut [u64],
 ) -> Combined
     requires { ⌜ Callable (now arities) (now x) (now y) (now out) (now work) ⌝ }
-    ensures { λ r. ⌜ Answered op Shared (now (arities .entry)) (now (x .entry)) (now (y .entry)) (now (out .entry)) r (now (out .exit)) ⌝ }
+    ensures { λ r. ⌜ CombineAnswered op Shared (now (arities .entry)) (now (x .entry)) (now (y .entry)) (now (out .entry)) r (now (out .exit)) ⌝ }
 {
     if x.len() / 3 > combine::FEW {
         return combine_many(op, arities, x, y, out, work);
@@ -194,7 +194,7 @@ pub fn combine_named(
     work: &mut [u64],
 ) -> Combined
     requires { ⌜ Callable (now arities) (now x) (now y) (now out) (now work) ⌝ }
-    ensures { λ r. ⌜ Answered op (doneAs op names (now (arities .entry)) (diagramOf (now (x .entry))) (diagramOf (now (y .entry)))) (now (arities .entry)) (now (x .entry)) (now (y .entry)) (now (out .entry)) r (now (out .exit)) ⌝ }
+    ensures { λ r. ⌜ CombineAnswered op (doneAs op names (now (arities .entry)) (diagramOf (now (x .entry))) (diagramOf (now (y .entry)))) (now (arities .entry)) (now (x .entry)) (now (y .entry)) (now (out .entry)) r (now (out .exit)) ⌝ }
 {
     match done_as(op, names, arities, x, y) {
         Names::Apart => apart::combine_apart(op, arities, x, y, out, work),

@@ -1,7 +1,7 @@
 -- The ways through the functions that form a plan's rows.
 use mathlib.Core.Path.{_≡_, refl, sym, ap, ap₂, _∙_, subst}
 use mathlib.Core.Bool.{true, false, _||_}
-use mathlib.Core.List.{List, [], _∷_, _++_}
+use mathlib.Core.List.{List, [], _++_}
 use Prim.Native.Nat.{ℕ, zero, suc, _+_, _*_, _-_, _≤_, _<_}
 use native.Mathlib.Omega.{arith}
 use lib.ListN.{length, getD, set, take, length-set, List·getD-append}
@@ -10,6 +10,7 @@ use lib.Dec.{eqb, ltb}
 use borrow.Author.Tests.{le-leb, lt-leb}
 use native.Mathlib.Numerals.{add-one}
 use Rattle.basics.specs.Tests.{Flag, isTrue, isFalse, flag, Cmp, below, equal, above, cmp, neither}
+use Rattle.basics.specs.Prefix.{Prefix, prefix-refl, prefix-trans, prefix-snoc, prefix-length, prefix-getD}
 use Rattle.label.specs.Limits.{leafMark}
 use Rattle.diagram.specs.Diagram.{Diagram, leaf}
 use Rattle.diagram.specs.Sizes.{spaceRows, highestValue}
@@ -22,15 +23,15 @@ use Rattle.apply.specs.Combination.{operate}
 use Rattle.apply.specs.Apply.{node}
 use Rattle.apply.specs.Formed.{add}
 use Rattle.apply.specs.FormedLaws.{add-mem, add-begins}
-use Rattle.apply.specs.Snoc.{Begins, begins-refl, begins-trans, begins-snoc, begins-length, begins-getD}
 use Rattle.store.proofs.SpaceLaws.{length-diagrams, diagram-at, formation-row, formation-full}
 use Rattle.plan.specs.Plan.{pairLabelAt, firstAt, secondAt}
 use Rattle.store.specs.Space.{diagramsOf, Holds, Children, formAnswer, Formation, addAll}
+use Rattle.store.specs.AddLaws.{add-all-none, add-all-snoc, add-all-more}
 use Rattle.store.specs.declared.Formed.{Formed}
 use Rattle.store.specs.declared.Formed.the-variants.{Row, Full}
 use Rattle.combine.specs.Callers.{Calm, EntryOf}
 use Rattle.combine.specs.Results.{isEndAt, resultAt, results, exceedsAt, exceeds}
-use Rattle.combine.specs.ResultLaws.{end-at, branch-at, result-end, result-branch, results-none, results-more, length-results, add-all-none, add-all-snoc, exceeds-more}
+use Rattle.combine.specs.ResultLaws.{end-at, branch-at, result-end, result-branch, results-none, results-more, length-results, exceeds-more}
 use Rattle.combine.specs.Forming.{entryAt, ChildRows, FormableAt, Forming, Formable, lastOf}
 
 entry-end : (op : Operation) (ws s : List ℕ) (k : ℕ) → isEndAt ws k ≡ true → entryAt op ws s k ≡ leaf (operate op (firstAt ws k) (secondAt ws k))
@@ -123,12 +124,12 @@ module _ (d : Diagram) (s : List ℕ) (rows : ℕ) {row then : ℕ} {s′ h′ l
 
   rows-grow : rows ≤ then
   unfolding R
-  rows-grow = omega (arith, told .2, begins-length _ _ (add-begins d (diagramsOf s rows)), length-diagrams s rows)
+  rows-grow = omega (arith, told .2, prefix-length (add-begins d (diagramsOf s rows)), length-diagrams s rows)
 
   old-tree : (k : ℕ) → k < rows → tree s′ k ≡ tree s k
   unfolding R
   old-tree k h =
-      at-new k (omega (arith, rows-grow)) ∙ begins-getD (diagramsOf s rows) R k (leaf 0) (add-begins d (diagramsOf s rows)) (omega (arith, length-diagrams s rows))
+      at-new k (omega (arith, rows-grow)) ∙ prefix-getD (add-begins d (diagramsOf s rows)) k (leaf 0) (omega (arith, length-diagrams s rows))
       ∙ diagram-at s rows k h
 
 -- one word of one entry is written
@@ -253,34 +254,22 @@ forming-start {op} {ws} {s} {heads} {links} {count} h = record {
 }
 
 -- adding diagrams and working on more entries only adds rows
-add-all-append : (rs ds es : List Diagram) → addAll rs (ds ++ es) ≡ addAll (addAll rs ds) es
-unfolding addAll
-add-all-append rs [] es = refl
-add-all-append rs (d ∷ ds) es = add-all-append (add d rs) ds es
-
-add-all-begins : (rs ds : List Diagram) → Begins rs (addAll rs ds)
-unfolding addAll
-add-all-begins rs [] = begins-refl rs
-add-all-begins rs (d ∷ ds) = begins-trans rs (add d rs) (addAll (add d rs) ds) (add-begins d rs) (add-all-begins (add d rs) ds)
-
-results-begin : (op : ℕ → ℕ → ℕ) (ws : List ℕ) (k n : ℕ) → k ≤ n → Begins (results op ws k) (results op ws n)
-results-begin op ws k zero h = let e : k ≡ 0 = omega arith in rw e (begins-refl (results op ws 0))
+results-begin : (op : ℕ → ℕ → ℕ) (ws : List ℕ) (k n : ℕ) → k ≤ n → Prefix (results op ws k) (results op ws n)
+results-begin op ws k zero h = let e : k ≡ 0 = omega arith in rw e (prefix-refl (results op ws 0))
 results-begin op ws k (suc n) h = go (cmp k (suc n)) (results-begin op ws k n)
   where
-    go : Cmp k (suc n) → (k ≤ n → Begins (results op ws k) (results op ws n)) → Begins (results op ws k) (results op ws (suc n))
+    go : Cmp k (suc n) → (k ≤ n → Prefix (results op ws k) (results op ws n)) → Prefix (results op ws k) (results op ws (suc n))
     go (below q) ih =
-        begins-trans (results op ws k) (results op ws n) (results op ws (suc n)) (ih (omega arith))
-        (rw (results-more op ws n) (begins-snoc (results op ws n) (resultAt op ws (results op ws n) n)))
-    go (equal q) ih = rw q (begins-refl (results op ws (suc n)))
+        prefix-trans (ih (omega arith))
+        (rw (results-more op ws n) (prefix-snoc (results op ws n) (resultAt op ws (results op ws n) n)))
+    go (equal q) ih = rw q (prefix-refl (results op ws (suc n)))
     go (above q) ih = absurd (omega arith)
 
-added-begin : (op : ℕ → ℕ → ℕ) (ws : List ℕ) (rs : List Diagram) (k n : ℕ) → k ≤ n → Begins (addAll rs (results op ws k)) (addAll rs (results op ws n))
-added-begin op ws rs k n h =
-    let b = results-begin op ws k n h in
-    rw (b .whole, add-all-append rs (results op ws k) (b .rest)) (add-all-begins (addAll rs (results op ws k)) (b .rest))
+added-begin : (op : ℕ → ℕ → ℕ) (ws : List ℕ) (rs : List Diagram) (k n : ℕ) → k ≤ n → Prefix (addAll rs (results op ws k)) (addAll rs (results op ws n))
+added-begin op ws rs k n h = add-all-more rs (results op ws k) (results op ws n) (results-begin op ws k n h)
 
-take-begin : (m : ℕ) (xs ys : List Diagram) → Begins xs ys → m ≤ length xs → take m ys ≡ take m xs
-take-begin m xs ys b h = rw (b .whole) (take-append-le m xs (b .rest) h)
+take-begin : (m : ℕ) (xs ys : List Diagram) → Prefix xs ys → m ≤ length xs → take m ys ≡ take m xs
+take-begin m xs ys b h = rw (b .is) (take-append-le m xs (b .more) h)
 
 full-is : (d : Diagram) (rs : List Diagram) → spaceRows < length rs → Full ≡ formAnswer d rs
 unfolding formAnswer
@@ -300,7 +289,7 @@ form-full {op} {ws₀} {rs} {n} able {ws} {k} {s} {heads} {links} {rows} now les
     let over : spaceRows < length (addAll rs (results (operate op) ws₀ (suc k))) = subst (λ (ds : List Diagram). spaceRows < length ds) e (formation-full p) in
     let b = added-begin (operate op) ws₀ rs (suc k) n (omega arith) in
     record {
-      answer = full-is _ _ (omega (arith, begins-length _ _ b));
+      answer = full-is _ _ (omega (arith, prefix-length b));
       diagrams = p .diagrams ∙ ap (take spaceRows) e ∙ sym (take-begin spaceRows _ _ b (omega arith));
       holds = p .holds;
     }

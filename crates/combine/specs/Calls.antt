@@ -24,6 +24,6 @@ pub record Callable (ar x y out work : List ℕ) : Type 0 where
   pub work-room : spaceWords ≤ length work
 
 -- the answer, and the result buffer then
-pub record Answered (op : Operation) (names : Names) (ar x y out : List ℕ) (r : Combined) (out′ : List ℕ) : Type 0 where
+pub record CombineAnswered (op : Operation) (names : Names) (ar x y out : List ℕ) (r : Combined) (out′ : List ℕ) : Type 0 where
   pub answer : r ≡ diagramAnswer op names ar (diagramOf x) (diagramOf y)
   pub words : out′ ≡ written r (listing (combination op names ar (diagramOf x) (diagramOf y))) out

@@ -60,15 +60,6 @@ unfolding results
 length-results op ws zero = refl
 length-results op ws (suc k) = omega (arith, length-append (results op ws k) (resultAt op ws (results op ws k) k ∷ []), length-results op ws k)
 
-pub add-all-none : (rs : List Diagram) → addAll rs [] ≡ rs
-unfolding addAll
-add-all-none rs = refl
-
-pub add-all-snoc : (rs ds : List Diagram) (d : Diagram) → addAll rs (ds ++ (d ∷ [])) ≡ add d (addAll rs ds)
-unfolding addAll
-add-all-snoc rs [] d = refl
-add-all-snoc rs (e ∷ ds) d = add-all-snoc (add e rs) ds d
-
 pub exceeds-none : (op : ℕ → ℕ → ℕ) (ws : List ℕ) → exceeds op ws 0 ≡ false
 unfolding exceeds
 exceeds-none op ws = refl

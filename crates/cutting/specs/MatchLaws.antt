@@ -24,14 +24,14 @@ use Rattle.label.specs.ArityLaws.{terms-length}
 use Rattle.cutting.specs.MovedLaws.{asks, moved-asks, asks-turned, asks-twice, label-asks, Asked, straight, across, ask-is, ask-always}
 
 -- σ gives what τ knows
-pub record Extends (σ : ℕ → ℕ) (τ : Partial) : Type 0 where
+pub record ExtendsPartial (σ : ℕ → ℕ) (τ : Partial) : Type 0 where
   pub known : (t u : ℕ) → τ t ≡ some u → σ t ≡ u
 
 none-not : {A : Type 0} {B : Type 0} (a : A) → none ≡ some a → B
 none-not a e = let z : _≡_ {A = ℕ} 0 1 = cc in absurd (omega arith)
 
 -- ===== Binding =====
-assign-extends : (σ : ℕ → ℕ) (τ : Partial) (t u : ℕ) → Extends σ τ → σ t ≡ u → Extends σ (assign τ t u)
+assign-extends : (σ : ℕ → ℕ) (τ : Partial) (t u : ℕ) → ExtendsPartial σ τ → σ t ≡ u → ExtendsPartial σ (assign τ t u)
 unfolding assign
 assign-extends σ τ t u x e = record { known = λ v w z. go v w (eqb v t) refl z }
   where
@@ -39,7 +39,7 @@ assign-extends σ τ t u x e = record { known = λ v w z. go v w (eqb v t) refl 
     go v w true r z = let s = eqb-true v t r in let y : u ≡ w = cc in ap σ s ∙ e ∙ y
     go v w false r z = x .known v w z
 
-assign-only : (σ : ℕ → ℕ) (τ : Partial) (t u : ℕ) → τ t ≡ none → Extends σ (assign τ t u) → Extends σ τ × (σ t ≡ u)
+assign-only : (σ : ℕ → ℕ) (τ : Partial) (t u : ℕ) → τ t ≡ none → ExtendsPartial σ (assign τ t u) → ExtendsPartial σ τ × (σ t ≡ u)
 unfolding assign
 assign-only σ τ t u n x = (record { known = λ v w z. x .known v w (was v w z (eqb v t) refl) }, x .known t u (rw (eq-eqb t t refl) refl))
   where
@@ -47,27 +47,27 @@ assign-only σ τ t u n x = (record { known = λ v w z. x .known v w (was v w z 
     was v w z true r = none-not w (sym n ∙ ap τ (sym (eqb-true v t r)) ∙ z)
     was v w z false r = rw r z
 
-pub bind-some : (σ : ℕ → ℕ) (τ : Partial) (t u : ℕ) → Extends σ τ → σ t ≡ u → (τ′ : Partial) × (bindTerm τ t u ≡ some τ′) × Extends σ τ′
+pub bind-some : (σ : ℕ → ℕ) (τ : Partial) (t u : ℕ) → ExtendsPartial σ τ → σ t ≡ u → (τ′ : Partial) × (bindTerm τ t u ≡ some τ′) × ExtendsPartial σ τ′
 unfolding bindTerm
 bind-some σ τ t u x e = go (τ t) refl
   where
-    go : (o : Option ℕ) → τ t ≡ o → (τ′ : Partial) × (agree τ t u o ≡ some τ′) × Extends σ τ′
+    go : (o : Option ℕ) → τ t ≡ o → (τ′ : Partial) × (agree τ t u o ≡ some τ′) × ExtendsPartial σ τ′
     go none q = (assign τ t u, refl, assign-extends σ τ t u x e)
     go (some w) q = (τ, rw (eq-eqb w u (sym (x .known t w q) ∙ e)) refl, x)
 
-pub bind-only : (σ : ℕ → ℕ) (τ τ′ : Partial) (t u : ℕ) → bindTerm τ t u ≡ some τ′ → Extends σ τ′ → Extends σ τ × (σ t ≡ u)
+pub bind-only : (σ : ℕ → ℕ) (τ τ′ : Partial) (t u : ℕ) → bindTerm τ t u ≡ some τ′ → ExtendsPartial σ τ′ → ExtendsPartial σ τ × (σ t ≡ u)
 unfolding bindTerm
 bind-only σ τ τ′ t u e x = go (τ t) refl e
   where
-    same : (w : ℕ) → τ t ≡ some w → (b : Bool) → eqb w u ≡ b → cond b (some τ) none ≡ some τ′ → Extends σ τ × (σ t ≡ u)
-    same w q true r y = let s : τ ≡ τ′ = cc in let x′ : Extends σ τ = rw s x in (x′, x′ .known t w q ∙ eqb-true w u r)
+    same : (w : ℕ) → τ t ≡ some w → (b : Bool) → eqb w u ≡ b → cond b (some τ) none ≡ some τ′ → ExtendsPartial σ τ × (σ t ≡ u)
+    same w q true r y = let s : τ ≡ τ′ = cc in let x′ : ExtendsPartial σ τ = rw s x in (x′, x′ .known t w q ∙ eqb-true w u r)
     same w q false r y = none-not τ′ y
 
-    go : (o : Option ℕ) → τ t ≡ o → agree τ t u o ≡ some τ′ → Extends σ τ × (σ t ≡ u)
+    go : (o : Option ℕ) → τ t ≡ o → agree τ t u o ≡ some τ′ → ExtendsPartial σ τ × (σ t ≡ u)
     go none q z = let s : assign τ t u ≡ τ′ = cc in assign-only σ τ t u q (rw s x)
     go (some w) q z = same w q (eqb w u) refl z
 
-pub binds-some : (σ : ℕ → ℕ) (τ : Partial) (ts : List ℕ) → Extends σ τ → (τ′ : Partial) × (bindTerms τ ts (map σ ts) ≡ some τ′) × Extends σ τ′
+pub binds-some : (σ : ℕ → ℕ) (τ : Partial) (ts : List ℕ) → ExtendsPartial σ τ → (τ′ : Partial) × (bindTerms τ ts (map σ ts) ≡ some τ′) × ExtendsPartial σ τ′
 unfolding bindTerms
 binds-some σ τ [] x = (τ, refl, x)
 binds-some σ τ (t ∷ ts) x =
@@ -75,7 +75,7 @@ binds-some σ τ (t ∷ ts) x =
     let r = binds-some σ (b .0) ts (b .2) in
     (r .0, ap (λ o. thenBind o (λ τ′. bindTerms τ′ ts (map σ ts))) (b .1) ∙ r .1, r .2)
 
-pub binds-only : (σ : ℕ → ℕ) (τ τ′ : Partial) (ts us : List ℕ) → bindTerms τ ts us ≡ some τ′ → Extends σ τ′ → Extends σ τ × (map σ ts ≡ us)
+pub binds-only : (σ : ℕ → ℕ) (τ τ′ : Partial) (ts us : List ℕ) → bindTerms τ ts us ≡ some τ′ → ExtendsPartial σ τ′ → ExtendsPartial σ τ × (map σ ts ≡ us)
 unfolding bindTerms
 binds-only σ τ τ′ [] [] e x = let s : τ ≡ τ′ = cc in (rw s x, refl)
 binds-only σ τ τ′ [] (u ∷ us) e x = none-not τ′ e
@@ -83,7 +83,7 @@ binds-only σ τ τ′ (t ∷ ts) [] e x = none-not τ′ e
 binds-only σ τ τ′ (t ∷ ts) (u ∷ us) e x = go (bindTerm τ t u) refl e (λ τ₁ z. binds-only σ τ₁ τ′ ts us z x)
   where
     go : (o : Option Partial) → bindTerm τ t u ≡ o → thenBind o (λ τ₁. bindTerms τ₁ ts us) ≡ some τ′
-        → ((τ₁ : Partial) → bindTerms τ₁ ts us ≡ some τ′ → Extends σ τ₁ × (map σ ts ≡ us)) → Extends σ τ × (map σ (t ∷ ts) ≡ u ∷ us)
+        → ((τ₁ : Partial) → bindTerms τ₁ ts us ≡ some τ′ → ExtendsPartial σ τ₁ × (map σ ts ≡ us)) → ExtendsPartial σ τ × (map σ (t ∷ ts) ≡ u ∷ us)
     go none q z rec = none-not τ′ z
     go (some τ₁) q z rec =
         let r = rec τ₁ z in
@@ -285,7 +285,7 @@ some-in (vs ∷ r) f us (List·Memᴰ·tail n) k = or-other (f vs) (someOf r f) 
 -- a replacement beyond τ, by terms of T, that takes each literal of qs to one of ls or to t = t true
 pub record Solves (ar : List ℕ) (ls : List Literal) (T : List ℕ) (qs : List Literal) (τ : Partial) : Type 0 where
   pub σ : ℕ → ℕ
-  pub extends : Extends σ τ
+  pub extends : ExtendsPartial σ τ
   pub image : (l : Literal) → List·Memᴰ l qs → (t : ℕ) → List·Memᴰ t (termsOf ar (unpacked (l .label))) → List·Memᴰ (σ t) T
   pub matched : (l : Literal) → List·Memᴰ l qs → Matched ar σ ls l
 

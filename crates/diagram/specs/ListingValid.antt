@@ -10,7 +10,7 @@ use lib.Seq.{take-append-le, take-at, getD-at}
 use lib.Dec.{eqb, ltb, leb}
 use borrow.Author.Tests.{eqb-true, eqb-false, eq-eqb, ne-eqb, ltb-true, lt-ltb, leb-true, le-leb, not-true}
 use Rattle.basics.specs.Tests.{and-left, and-right, Flag, isTrue, isFalse, flag, Cmp, cmp, below, equal, above, Either, one, other, either, or-one, or-other}
-use Rattle.basics.specs.Members.{mem, mem-append, NoDup, Within, nodup-le, clash}
+use Rattle.basics.specs.Members.{mem, NoDup, Within, nodup-le, clash, mem-snoc}
 use Rattle.label.specs.Limits.{leafMark}
 use Rattle.label.specs.Labels.{areArities, isLabel}
 use Rattle.diagram.specs.Sizes.{mostRows, highestValue}
@@ -126,9 +126,6 @@ module _ (ar ws : List ℕ) (v : Plain ar ws) where
       go (equal q) = rw (take-at xs (x ∷ []) k (sym q), getD-at xs x [] 0 k (sym q)) h
       go (above q) = absurd (omega (arith, length-append xs (x ∷ [])))
 
-  mem-snoc : (x : ℕ) (xs : List ℕ) → mem eqb x (xs ++ (x ∷ [])) ≡ true
-  mem-snoc x xs = rw (mem-append eqb x xs (x ∷ [])) (or-other (mem eqb x xs) _ (or-one _ _ (eq-eqb x x refl)))
-
   abbrev Closes : ℕ → Type 0
   Closes n = (i : ℕ) (done ps : List ℕ) → i < rowCount ws → length ps + n ≡ rowCount ws → Above ps i → Built done
       → (mem eqb i (finish ws n i done) ≡ true) × Built (finish ws n i done)
@@ -141,7 +138,7 @@ module _ (ar ws : List ℕ) (v : Plain ar ws) where
       go (isTrue e) x = rw (finish-old ws (suc n) i done e) (e, b)
       go (isFalse e) (isTrue q) =
           let q′ = eqb-true _ _ q in
-          rw (finish-leaf ws n i done e q′) (mem-snoc i done, built-more done i b (λ z. absurd (z q′)))
+          rw (finish-leaf ws n i done e q′) (mem-snoc eqb number-test i done, built-more done i b (λ z. absurd (z q′)))
       go (isFalse e) (isFalse q) =
           let q′ = eqb-false _ _ q in
           let r = inner-branch i h q′ in
@@ -149,7 +146,7 @@ module _ (ar ws : List ℕ) (v : Plain ar ws) where
           let y = ih (lowAt ws i) (finish ws n (highAt ws i) done) (i ∷ ps) (r .low-row) (omega arith) (h, r .low-above, p) (x .1) in
           let xs = finish ws n (lowAt ws i) (finish ws n (highAt ws i) done) in
           rw (finish-branch ws n i done e q′)
-          (mem-snoc i xs, built-more xs i (y .1) (λ z. (finish-keeps ws n (lowAt ws i) (finish ws n (highAt ws i) done) (highAt ws i) (x .0), y .0)))
+          (mem-snoc eqb number-test i xs, built-more xs i (y .1) (λ z. (finish-keeps ws n (lowAt ws i) (finish ws n (highAt ws i) done) (highAt ws i) (x .0), y .0)))
 
   closes : (n : ℕ) → Closes n
   closes zero i done ps h l p b = absurd (omega (arith, path-short ps i h p))

@@ -1,19 +1,19 @@
 -- Laws of the rows of diagrams: `onto` adds to rows that are kept in order what is missing, and only parts of its diagram.
 use mathlib.Core.Path.{_≡_, refl, ap, sym, _∙_}
-use mathlib.Core.Bool.{Bool, true, false, _||_, or-false}
+use mathlib.Core.Bool.{Bool, true, false, _||_}
 use mathlib.Core.List.{List, [], _∷_, _++_}
 use Prim.Native.Nat.{ℕ, suc, pred, _+_, _≤_, _<_}
 use native.Mathlib.Omega.{arith}
 use lib.ListN.{length, getD, length-append, List·getD-append}
 use lib.Seq.{getD-at}
 use Rattle.basics.specs.Tests.{Flag, isTrue, isFalse, flag, Cmp, cmp, below, equal, above, Either, one, other, either, or-one, or-other}
-use Rattle.basics.specs.Members.{mem, mem-append, NoDup, Within, nodup-le, clash}
+use Rattle.basics.specs.Members.{mem, mem-append, NoDup, Within, nodup-le, clash, append-one, mem-snoc, snoc-cases}
+use Rattle.basics.specs.Prefix.{Prefix, prefix-refl, prefix-snoc, prefix-append, prefix-trans, mem-prefix}
 use Rattle.diagram.specs.Diagram.{Diagram, leaf, branch, same, From, Reduced}
 use Rattle.diagram.specs.Rows.{onto, rows}
 use Rattle.diagram.specs.Listing.{index}
-use Rattle.diagram.specs.RowLists.{Grown, rowTree, isPart, size, Earlier, Kept}
+use Rattle.diagram.specs.RowLists.{rowTree, isPart, size, Earlier, Kept}
 use Rattle.diagram.specs.DiagramLaws.{same-eq, same-refl, diagram-test, from-weaken, onto-old, onto-leaf, onto-branch}
-use Rattle.diagram.specs.WordLaws.{grown-none, grown-more, grown-twice, mem-grown}
 use Rattle.diagram.specs.ListingLaws.{getD-index, index-less, index-append, mem-getD}
 
 -- two tests that hold together are equal
@@ -95,45 +95,34 @@ pub not-in-low : (l : ℕ) (t f : Diagram) → isPart (branch l t f) f ≡ true 
 unfolding size
 not-in-low l t f h = omega (arith, part-size (branch l t f) f h)
 
--- a row more at the end
-pub mem-snoc : (x : Diagram) (rs : List Diagram) → mem same x (rs ++ (x ∷ [])) ≡ true
-mem-snoc x rs = rw (mem-append same x rs (x ∷ [])) (or-other (mem same x rs) _ (or-one _ _ (same-refl x)))
-
-pub snoc-mem : (y x : Diagram) (rs : List Diagram) → mem same y (rs ++ (x ∷ [])) ≡ true → Either (mem same y rs) (same y x)
-snoc-mem y x rs h = go (either (mem same y rs) (mem same y (x ∷ [])) (rw (mem-append same y rs (x ∷ [])) at h))
-  where
-    go : Either (mem same y rs) (mem same y (x ∷ [])) → Either (mem same y rs) (same y x)
-    go (one e) = one e
-    go (other e) = other (rw or-false at e)
-
 -- what `onto` adds to: the diagram is there, and what was there stays
 pub onto-mem : (d : Diagram) (rs : List Diagram) → mem same d (onto d rs) ≡ true
 onto-mem (leaf v) rs = go (flag (mem same (leaf v) rs))
   where
     go : Flag (mem same (leaf v) rs) → mem same (leaf v) (onto (leaf v) rs) ≡ true
     go (isTrue e) = rw (onto-old (leaf v) rs e) e
-    go (isFalse e) = rw (onto-leaf v rs e) (mem-snoc (leaf v) rs)
+    go (isFalse e) = rw (onto-leaf v rs e) (mem-snoc same diagram-test (leaf v) rs)
 onto-mem (branch l t f) rs = go (flag (mem same (branch l t f) rs))
   where
     go : Flag (mem same (branch l t f) rs) → mem same (branch l t f) (onto (branch l t f) rs) ≡ true
     go (isTrue e) = rw (onto-old (branch l t f) rs e) e
-    go (isFalse e) = rw (onto-branch l t f rs e) (mem-snoc (branch l t f) (onto f (onto t rs)))
+    go (isFalse e) = rw (onto-branch l t f rs e) (mem-snoc same diagram-test (branch l t f) (onto f (onto t rs)))
 
-pub onto-keeps : (d : Diagram) (rs : List Diagram) → Grown rs (onto d rs)
+pub onto-keeps : (d : Diagram) (rs : List Diagram) → Prefix rs (onto d rs)
 onto-keeps (leaf v) rs = go (flag (mem same (leaf v) rs))
   where
-    go : Flag (mem same (leaf v) rs) → Grown rs (onto (leaf v) rs)
-    go (isTrue e) = rw (onto-old (leaf v) rs e) (grown-none rs)
-    go (isFalse e) = rw (onto-leaf v rs e) (record { more = leaf v ∷ []; is = refl })
+    go : Flag (mem same (leaf v) rs) → Prefix rs (onto (leaf v) rs)
+    go (isTrue e) = rw (onto-old (leaf v) rs e) (prefix-refl rs)
+    go (isFalse e) = rw (onto-leaf v rs e) (prefix-snoc rs (leaf v))
 onto-keeps (branch l t f) rs =
-    go (flag (mem same (branch l t f) rs)) (grown-twice rs (onto t rs) (onto f (onto t rs)) (onto-keeps t rs) (onto-keeps f (onto t rs)))
+    go (flag (mem same (branch l t f) rs)) (prefix-trans (onto-keeps t rs) (onto-keeps f (onto t rs)))
   where
-    go : Flag (mem same (branch l t f) rs) → Grown rs (onto f (onto t rs)) → Grown rs (onto (branch l t f) rs)
-    go (isTrue e) g = rw (onto-old (branch l t f) rs e) (grown-none rs)
-    go (isFalse e) g = rw (onto-branch l t f rs e) (grown-more rs (onto f (onto t rs)) (branch l t f ∷ []) g)
+    go : Flag (mem same (branch l t f) rs) → Prefix rs (onto f (onto t rs)) → Prefix rs (onto (branch l t f) rs)
+    go (isTrue e) g = rw (onto-old (branch l t f) rs e) (prefix-refl rs)
+    go (isFalse e) g = rw (onto-branch l t f rs e) (prefix-append (branch l t f ∷ []) g)
 
 pub onto-keeps-mem : (d y : Diagram) (rs : List Diagram) → mem same y rs ≡ true → mem same y (onto d rs) ≡ true
-onto-keeps-mem d y rs h = mem-grown same y rs (onto d rs) (onto-keeps d rs) h
+onto-keeps-mem d y rs h = mem-prefix same y (onto-keeps d rs) h
 
 -- what `onto` adds is a part of the diagram
 pub onto-from : (d y : Diagram) (rs : List Diagram) → mem same y (onto d rs) ≡ true → Either (mem same y rs) (isPart y d)
@@ -142,13 +131,13 @@ onto-from (leaf v) y rs h = go (flag (mem same (leaf v) rs))
   where
     go : Flag (mem same (leaf v) rs) → Either (mem same y rs) (isPart y (leaf v))
     go (isTrue e) = one (rw (onto-old (leaf v) rs e) at h)
-    go (isFalse e) = snoc-mem y (leaf v) rs (rw (onto-leaf v rs e) at h)
+    go (isFalse e) = snoc-cases same y (leaf v) rs (rw (onto-leaf v rs e) at h)
 onto-from (branch l t f) y rs h = go (flag (mem same (branch l t f) rs)) (onto-from t y rs) (onto-from f y (onto t rs))
   where
     go : Flag (mem same (branch l t f) rs) → (mem same y (onto t rs) ≡ true → Either (mem same y rs) (isPart y t))
         → (mem same y (onto f (onto t rs)) ≡ true → Either (mem same y (onto t rs)) (isPart y f)) → Either (mem same y rs) (isPart y (branch l t f))
     go (isTrue e) p q = one (rw (onto-old (branch l t f) rs e) at h)
-    go (isFalse e) p q = last (snoc-mem y (branch l t f) (onto f (onto t rs)) (rw (onto-branch l t f rs e) at h))
+    go (isFalse e) p q = last (snoc-cases same y (branch l t f) (onto f (onto t rs)) (rw (onto-branch l t f rs e) at h))
       where
         high : Either (mem same y rs) (isPart y t) → Either (mem same y rs) (isPart y (branch l t f))
         high (one z) = one z
@@ -196,7 +185,7 @@ next-is rs (branch k u g) n l t f e =
 
 earlier-keeps : (rs : List Diagram) (y : Diagram) (k : ℕ) (x : Diagram) → Earlier rs k x → Earlier (rs ++ (y ∷ [])) k x
 earlier-keeps rs y k x e = record {
-  is-row = mem-grown same x rs (rs ++ (y ∷ [])) (record { more = y ∷ []; is = refl }) (e .is-row);
+  is-row = append-one same x rs (y ∷ []) (e .is-row);
   before = rw (index-append x rs (y ∷ []) (e .is-row)) (e .before);
 }
 

@@ -1,7 +1,7 @@
 -- Lists of rows that grow at the end, as those of a listing and of a working space do, and words that hold them.
 use mathlib.Core.Path.{_≡_}
 use mathlib.Core.Bool.{Bool, true, _||_}
-use mathlib.Core.List.{List, _++_}
+use mathlib.Core.List.{List}
 use Prim.Native.Nat.{ℕ, suc, _+_, _<_}
 use lib.ListN.{length, getD}
 use Rattle.basics.specs.Members.{mem}
@@ -9,11 +9,6 @@ use Rattle.label.specs.Limits.{leafMark}
 use Rattle.diagram.specs.Diagram.{Diagram, leaf, branch, same}
 use Rattle.diagram.specs.Words.{labelAt, highAt, lowAt}
 use Rattle.diagram.specs.Listing.{index}
-
--- `new` is `old` with more behind it
-pub record Grown {A : Type 0} (old new : List A) : Type 0 where
-  pub more : List A
-  pub is : new ≡ old ++ more
 
 -- the diagram of row k
 abbrev pub rowTree : List Diagram → ℕ → Diagram

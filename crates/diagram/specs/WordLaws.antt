@@ -1,8 +1,8 @@
--- Laws of words and of lists that grow: equal rows, the numbers 0 .. n - 1, and the walk that finishes rows, which only adds to them.
+-- Laws of words: equal rows, the numbers 0 .. n - 1, and the walk that finishes rows, which only adds to them.
 use mathlib.Core.Path.{_≡_, refl, ap, sym, _∙_}
 use mathlib.Core.Logic.{_≢_}
 use mathlib.Core.Bool.{Bool, true, false, _||_}
-use mathlib.Core.List.{List, [], _∷_, _++_, map, append-nil, append-assoc}
+use mathlib.Core.List.{List, [], _∷_, _++_, map}
 use Prim.Native.Nat.{ℕ, zero, suc, _≤_, _<_}
 use native.Mathlib.Omega.{arith}
 use lib.ListN.{length, getD, take, length-append, List·getD-append}
@@ -11,22 +11,9 @@ use lib.Dec.{eqb}
 use borrow.Author.Tests.{eqb-true, eqb-false, eq-eqb, ne-eqb}
 use Rattle.basics.specs.Tests.{and-left, and-right, Flag, isTrue, isFalse, flag, Cmp, cmp, below, equal, above, or-one, or-other}
 use Rattle.basics.specs.Members.{IsTest, mem, mem-append, clash}
+use Rattle.basics.specs.Prefix.{Prefix, prefix-refl, prefix-snoc, prefix-append, prefix-trans, mem-prefix}
 use Rattle.label.specs.Limits.{leafMark}
-use Rattle.diagram.specs.RowLists.{Grown}
 use Rattle.diagram.specs.Words.{labelAt, highAt, lowAt, equalRows, finish, upTo, everyBelow, equalLists}
-
--- lists that grow
-pub grown-none : {A : Type 0} (xs : List A) → Grown xs xs
-grown-none xs = record { more = []; is = sym (append-nil xs) }
-
-pub grown-more : {A : Type 0} (xs ys zs : List A) → Grown xs ys → Grown xs (ys ++ zs)
-grown-more xs ys zs g = record { more = g .more ++ zs; is = ap (λ z. z ++ zs) (g .is) ∙ append-assoc xs (g .more) zs }
-
-pub grown-twice : {A : Type 0} (xs ys zs : List A) → Grown xs ys → Grown ys zs → Grown xs zs
-grown-twice xs ys zs g h = record { more = g .more ++ h .more; is = h .is ∙ ap (λ z. z ++ h .more) (g .is) ∙ append-assoc xs (g .more) (h .more) }
-
-pub mem-grown : {A : Type 0} (eq : A → A → Bool) (x : A) (xs ys : List A) → Grown xs ys → mem eq x xs ≡ true → mem eq x ys ≡ true
-mem-grown eq x xs ys g h = rw (g .is, mem-append eq x xs (g .more)) (or-one _ _ h)
 
 pub number-test : IsTest eqb
 number-test = record { sound = λ a b e. eqb-true a b e; complete = λ a. eq-eqb a a refl }
@@ -170,18 +157,17 @@ unfolding finish
 finish-branch ws n i done e h = rw (e, ne-eqb (labelAt ws i) leafMark h, finish)
 
 -- a walk only adds
-pub grows : (ws : List ℕ) (n i : ℕ) (done : List ℕ) → Grown done (finish ws n i done)
+pub grows : (ws : List ℕ) (n i : ℕ) (done : List ℕ) → Prefix done (finish ws n i done)
 unfolding finish
-grows ws zero i done = grown-none done
+grows ws zero i done = prefix-refl done
 grows ws (suc n) i done = go (flag (mem eqb i done)) (flag (eqb (labelAt ws i) leafMark))
-    (grown-twice done (finish ws n (highAt ws i) done) (finish ws n (lowAt ws i) (finish ws n (highAt ws i) done)) (grows ws n (highAt ws i) done)
-    (grows ws n (lowAt ws i) (finish ws n (highAt ws i) done)))
+    (prefix-trans (grows ws n (highAt ws i) done) (grows ws n (lowAt ws i) (finish ws n (highAt ws i) done)))
   where
-    go : Flag (mem eqb i done) → Flag (eqb (labelAt ws i) leafMark) → Grown done (finish ws n (lowAt ws i) (finish ws n (highAt ws i) done))
-        → Grown done (finish ws (suc n) i done)
-    go (isTrue e) x g = rw (finish-old ws (suc n) i done e) (grown-none done)
-    go (isFalse e) (isTrue q) g = rw (finish-leaf ws n i done e (eqb-true _ _ q)) (record { more = i ∷ []; is = refl })
-    go (isFalse e) (isFalse q) g = rw (finish-branch ws n i done e (eqb-false _ _ q)) (grown-more done _ (i ∷ []) g)
+    go : Flag (mem eqb i done) → Flag (eqb (labelAt ws i) leafMark) → Prefix done (finish ws n (lowAt ws i) (finish ws n (highAt ws i) done))
+        → Prefix done (finish ws (suc n) i done)
+    go (isTrue e) x g = rw (finish-old ws (suc n) i done e) (prefix-refl done)
+    go (isFalse e) (isTrue q) g = rw (finish-leaf ws n i done e (eqb-true _ _ q)) (prefix-snoc done i)
+    go (isFalse e) (isFalse q) g = rw (finish-branch ws n i done e (eqb-false _ _ q)) (prefix-append (i ∷ []) g)
 
 pub finish-keeps : (ws : List ℕ) (n i : ℕ) (done : List ℕ) (x : ℕ) → mem eqb x done ≡ true → mem eqb x (finish ws n i done) ≡ true
-finish-keeps ws n i done x h = mem-grown eqb x done (finish ws n i done) (grows ws n i done) h
+finish-keeps ws n i done x h = mem-prefix eqb x (grows ws n i done) h

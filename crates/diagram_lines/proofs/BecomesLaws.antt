@@ -43,7 +43,7 @@ use Rattle.memory.specs.Memory.{Memory, memoryOf, sessionOf, Ready}
 use Rattle.drawing.specs.Drawing.{drawn, Draws}
 use Rattle.diagram_lines.specs.Lines.{roomed, lowered, truthNumber, truthOf, TruthOpens, BecomesReady, BecomesSays}
 use Rattle.diagram_lines.proofs.RoomLaws.{roomed-ok, Drew, draws-refused, draws-done, drew-diagram, drew-canonical, drew-some, drew-room}
-use Rattle.diagram_lines.proofs.LineLaws.{line-refused, line-accepted, numbersWith, Grown, grown-stored}
+use Rattle.diagram_lines.proofs.LineLaws.{line-refused, line-accepted, numbersWith, ListingAdded, added-stored}
 
 -- ===== Read =====
 
@@ -250,7 +250,7 @@ module _ (s : List ℕ) (n : Numbers) (names ar listings table : List ℕ) where
                 held = heldIn (n .held) value;
               }
 
-              grown : Grown n ar listings names listings′ table′ (n .reward) (n .counts) h k
+              grown : ListingAdded n ar listings names listings′ table′ (n .reward) (n .counts) h k
               grown = record {
                 vocabulary = q .stored .vocabulary;
                 building = a .building (q .stored .building) (drew-canonical D);
@@ -262,6 +262,6 @@ module _ (s : List ℕ) (n : Numbers) (names ar listings table : List ℕ) where
             pub becomes-accepted : (number : ℕ) → BecomesSays s number n names ar listings table (record { numbers = numbersWith n (n .reward) (n .counts) h; answer = A.Nothing }) listings′ table′
             becomes-accepted number = record {
               says = λ state value q.
-                  line-accepted number q (line-is number state value) (adds number state value number-is (D .is)) (session-is state value q) (grown-stored q refl (grown state value q)) (q .indexed)
+                  line-accepted number q (line-is number state value) (adds number state value number-is (D .is)) (session-is state value q) (added-stored q refl (grown state value q)) (q .indexed)
                   (record { starts = a .starts ar truth-free; idle = λ z. (z, refl) });
             }

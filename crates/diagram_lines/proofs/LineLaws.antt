@@ -84,17 +84,17 @@ numbersWith n f c h = record {
 }
 
 -- a listing of k rows more: what the numbers and words are then
-pub record Grown (n : Numbers) (ar listings names′ listings′ table′ : List ℕ) (f : Bool) (c : Counts) (h : Head) (k : ℕ) : Type 0 where
+pub record ListingAdded (n : Numbers) (ar listings names′ listings′ table′ : List ℕ) (f : Bool) (c : Counts) (h : Head) (k : ℕ) : Type 0 where
   pub vocabulary : GoodVocabulary names′ ar c
   pub building : Building listings′ table′ h
   pub size : length listings′ ≡ length listings
   pub words : h .words ≡ n .head .words + k * 3
   pub reward : f ≡ not (eqb (h .«reward_words») 0)
 
-pub grown-stored : {k : Kind} {s names ar listings table state value names′ listings′ table′ : List ℕ} {n : Numbers} {f : Bool} {c : Counts} {h : Head} {m : ℕ}
-    → Ready k s n (memoryOf names ar listings table state value) → ruleOf k Run ≡ Misplaced → Grown n ar listings names′ listings′ table′ f c h m
+pub added-stored : {k : Kind} {s names ar listings table state value names′ listings′ table′ : List ℕ} {n : Numbers} {f : Bool} {c : Counts} {h : Head} {m : ℕ}
+    → Ready k s n (memoryOf names ar listings table state value) → ruleOf k Run ≡ Misplaced → ListingAdded n ar listings names′ listings′ table′ f c h m
     → Stored (numbersWith n f c h) (memoryOf names′ ar listings′ table′ state value)
-grown-stored q e g = record {
+added-stored q e g = record {
   vocabulary = g .vocabulary;
   building = g .building;
   listing-room = omega (arith, g .size, q .stored .listing-room);

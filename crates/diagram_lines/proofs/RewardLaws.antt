@@ -45,7 +45,7 @@ use Rattle.drawing.specs.Drawing.{drawnClosed, DiagramAt, Drawable, Draws}
 use Rattle.diagram_lines.specs.Lines.{roomed, roomedAs, Lent, RewardReady, RewardSays}
 use Rattle.diagram_lines.specs.ReadyLaws.{no-reward}
 use Rattle.diagram_lines.proofs.RoomLaws.{roomed-ok, draws-room, Drew, draws-refused, draws-done, drew-diagram, drew-canonical, drew-some, drew-room}
-use Rattle.diagram_lines.proofs.LineLaws.{line-short, line-begins, tables-of, no-keys, fresh-variables, line-refused, line-accepted, numbersWith, Grown, grown-stored}
+use Rattle.diagram_lines.proofs.LineLaws.{line-short, line-begins, tables-of, no-keys, fresh-variables, line-refused, line-accepted, numbersWith, ListingAdded, added-stored}
 
 -- ===== Read =====
 
@@ -156,7 +156,7 @@ module _ (s : List ℕ) (n : Numbers) (names ar listings : List ℕ) where
             held = heldIn (n .held) value;
           }
 
-          grown : Grown n ar listings names listings′ table true (n .counts) h k
+          grown : ListingAdded n ar listings names listings′ table true (n .counts) h k
           grown = record {
             vocabulary = q .stored .vocabulary;
             building = a .building table (q .stored .building) (drew-canonical D);
@@ -170,6 +170,6 @@ module _ (s : List ℕ) (n : Numbers) (names ar listings : List ℕ) where
           says = λ table state value q.
               let w : Memory = memoryOf names ar listings table state value in
               line-accepted number q (reward-done s number n w) (ap (λ (o : Outcome Diagram). andThen o (λ y. ok (withReward (sessionOf n w) y))) (D .is))
-              (session-is table state value q) (grown-stored q refl (grown table state value q)) (q .indexed)
+              (session-is table state value q) (added-stored q refl (grown table state value q)) (q .indexed)
               (record { starts = a .starts table (no-reward q) (drew-some D); idle = λ y. (y, refl) });
         }

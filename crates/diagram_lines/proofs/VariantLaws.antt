@@ -54,7 +54,7 @@ use Rattle.memory.specs.Memory.{Memory, memoryOf, sessionOf, LineOf, Ready}
 use Rattle.drawing.specs.Drawing.{drawn, Drawable, Draws}
 use Rattle.diagram_lines.specs.Lines.{roomed, roomedAs, Lent, actionScope, WeightAt, moreVariants, VariantNamed, VariantReady, VariantSays}
 use Rattle.diagram_lines.proofs.RoomLaws.{roomed-ok, draws-room, draws-none, Drew, draws-refused, draws-done, drew-diagram, drew-canonical, drew-room}
-use Rattle.diagram_lines.proofs.LineLaws.{line-short, line-begins, tables-of, no-keys, fresh-variables, line-refused, line-accepted, numbersWith, Grown, grown-stored}
+use Rattle.diagram_lines.proofs.LineLaws.{line-short, line-begins, tables-of, no-keys, fresh-variables, line-refused, line-accepted, numbersWith, ListingAdded, added-stored}
 
 -- ===== Its name, and the place behind it =====
 
@@ -287,7 +287,7 @@ module _ (s : List ℕ) (n : Numbers) (names ar listings table : List ℕ) {k : 
             held = heldIn (n .held) value;
           }
 
-          grown : Grown n ar listings names′ listings′ table′ (n .reward) c h m
+          grown : ListingAdded n ar listings names′ listings′ table′ (n .reward) c h m
           grown = record {
             vocabulary = record {
               names = named-good p (names-good names (n .counts) k (y .lent .vocabulary .names) variant-few variant-more);
@@ -305,5 +305,5 @@ module _ (s : List ℕ) (n : Numbers) (names ar listings table : List ℕ) {k : 
           says = λ state value q.
               line-accepted number q (line-is number state value)
               (ap (λ (o : Outcome Diagram). andThen o (λ z. ok (withVariant (sessionOf n (memoryOf names ar listings table state value)) k z))) (D .is))
-              (session-is state value q) (grown-stored q refl (grown state value q)) (q .indexed) (record { starts = a .starts; idle = λ z. (z, refl) });
+              (session-is state value q) (added-stored q refl (grown state value q)) (q .indexed) (record { starts = a .starts; idle = λ z. (z, refl) });
         }

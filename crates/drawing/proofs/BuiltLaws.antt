@@ -40,7 +40,7 @@ use Rattle.build.specs.Build.{held}
 use Rattle.build.specs.Machine.{build, built, builtClosed}
 use Rattle.drawing.proofs.RegularLaws.{built-regular}
 use Rattle.drawing.specs.Stacks.{wholeOps}
-use Rattle.drawing.specs.Writing.{Callable, Under, Answered, RowWritable, Roomy, Builds}
+use Rattle.drawing.specs.Writing.{Callable, Under, BuildAnswered, RowWritable, Roomy, Builds}
 use Rattle.reading.specs.Operations.{Op}
 
 -- a result held to 1,024 rows
@@ -80,27 +80,27 @@ row-writable g n₁ n₂ h k = record {
 }
 
 module _ {s : List ℕ} {root : ℕ} {out : List ℕ} {x : Listed} {marks′ out′ : List ℕ} (w : WritePost s root out x marks′ out′) where
-  pub row-many : x ≡ TooMany → Answered (held (tree s root)) out (Refused NoSpace) out′
+  pub row-many : x ≡ TooMany → BuildAnswered (held (tree s root)) out (Refused NoSpace) out′
   row-many e = go (cmp mostRows (length (rows (tree s root))))
     where
       few : length (rows (tree s root)) ≤ mostRows → ⊥
       few h = let y : Rows (length (rows (tree s root))) ≡ TooMany = sym (answer-few (tree s root) h) ∙ sym (w .answer) ∙ e in let z : _≡_ {A = ℕ} 0 1 = cc in omega arith
 
-      go : Cmp mostRows (length (rows (tree s root))) → Answered (held (tree s root)) out (Refused NoSpace) out′
+      go : Cmp mostRows (length (rows (tree s root))) → BuildAnswered (held (tree s root)) out (Refused NoSpace) out′
       go (below h) = record { answer = rw (held-many (tree s root) h); words = rw (held-many (tree s root) h) (w .words ∙ words-many (tree s root) out h) }
       go (equal h) = absurd (few (omega arith))
       go (above h) = absurd (few (omega arith))
 
-  pub row-few : {m : ℕ} → x ≡ Rows m → Answered (held (tree s root)) out (Done m) out′
+  pub row-few : {m : ℕ} → x ≡ Rows m → BuildAnswered (held (tree s root)) out (Done m) out′
   row-few {m} e = go (cmp mostRows (length (rows (tree s root))))
     where
-      done : length (rows (tree s root)) ≤ mostRows → Answered (held (tree s root)) out (Done m) out′
+      done : length (rows (tree s root)) ≤ mostRows → BuildAnswered (held (tree s root)) out (Done m) out′
       done h =
           let y : Rows m ≡ Rows (length (rows (tree s root))) = sym e ∙ w .answer ∙ answer-few (tree s root) h in
           let n : m ≡ length (rows (tree s root)) = cc in
           record { answer = rw (held-few (tree s root) h) (ap Done n); words = rw (held-few (tree s root) h) (w .words ∙ words-few (tree s root) out h) }
 
-      go : Cmp mostRows (length (rows (tree s root))) → Answered (held (tree s root)) out (Done m) out′
+      go : Cmp mostRows (length (rows (tree s root))) → BuildAnswered (held (tree s root)) out (Done m) out′
       go (below h) = let y : Rows m ≡ TooMany = sym e ∙ w .answer ∙ answer-many (tree s root) h in absurd (let z : _≡_ {A = ℕ} 0 1 = cc in omega arith)
       go (equal h) = done (omega arith)
       go (above h) = done (omega arith)
@@ -144,7 +144,7 @@ few-suffice {r = r} c b = record { row = b .row; refusal = λ w count e f. b .re
 -- `build_words`
 module _ {ops out work : List ℕ} (g : Callable ops out work) {r : Stepped} {s : List ℕ} (same-length : length s ≡ length work)
     (x : Builds mostPairs (wholeOps ops) r s) where
-  pub built-refused : {w : Refusal} {c : ℕ} → r ≡ StepRefused w c → Answered (built (wholeOps ops)) out (Refused w) out
+  pub built-refused : {w : Refusal} {c : ℕ} → r ≡ StepRefused w c → BuildAnswered (built (wholeOps ops)) out (Refused w) out
   unfolding built
   built-refused {w} {c} e =
       let q : build (wholeOps ops) [] ≡ refused w = x .refusal w c e (all-final w) in
@@ -156,7 +156,7 @@ module _ {ops out work : List ℕ} (g : Callable ops out work) {r : Stepped} {s 
         let h = x .row root count e in
         record { written = h .written; space-words = omega (arith, g .work-room); within = h .within; there = h .there; room = g .out-room }
 
-    pub built-row : {b : Built} {out′ : List ℕ} → Answered (held (tree s root)) out b out′ → Answered (built (wholeOps ops)) out b out′
+    pub built-row : {b : Built} {out′ : List ℕ} → BuildAnswered (held (tree s root)) out b out′ → BuildAnswered (built (wholeOps ops)) out b out′
     unfolding built
     built-row a =
         let q : build (wholeOps ops) [] ≡ ok (tree s root, diagramsOf s count) = x .row root count e .gives in
@@ -164,11 +164,11 @@ module _ {ops out work : List ℕ} (g : Callable ops out work) {r : Stepped} {s 
 
 -- `write_closed`
 module _ {ar : List ℕ} {d : Diagram} {p : ℕ} {out : List ℕ} {q : Combined} {out′ : List ℕ} (x : ResultWritten ar d p out q out′) where
-  pub closed-done : {m n : ℕ} → q ≡ CombinedDone m n → Answered (held (closed ar d)) out (Done m) out′
+  pub closed-done : {m n : ℕ} → q ≡ CombinedDone m n → BuildAnswered (held (closed ar d)) out (Done m) out′
   unfolding resultAnswer
   closed-done {m} {n} e = go (ltb mostRows (length (rows (closed ar d)))) refl
     where
-      go : (b : Bool) → ltb mostRows (length (rows (closed ar d))) ≡ b → Answered (held (closed ar d)) out (Done m) out′
+      go : (b : Bool) → ltb mostRows (length (rows (closed ar d))) ≡ b → BuildAnswered (held (closed ar d)) out (Done m) out′
       go true f =
           let y : CombinedDone m n ≡ CombinedRefused NoSpace = sym e ∙ x .answer ∙ ap (λ (b : Bool). cond b (CombinedRefused NoSpace) (CombinedDone (length (rows (closed ar d))) p)) f in
           absurd (let z : _≡_ {A = ℕ} 0 1 = cc in omega arith)
@@ -178,11 +178,11 @@ module _ {ar : List ℕ} {d : Diagram} {p : ℕ} {out : List ℕ} {q : Combined}
           let k : m ≡ length (rows (closed ar d)) = cc in
           record { answer = rw f (ap Done k); words = rw f (x .words ∙ ap (λ (c : Combined). written c (listing (closed ar d)) out) e) }
 
-  pub closed-refused : {w : Refusal} → q ≡ CombinedRefused w → Answered (held (closed ar d)) out (Refused w) out′
+  pub closed-refused : {w : Refusal} → q ≡ CombinedRefused w → BuildAnswered (held (closed ar d)) out (Refused w) out′
   unfolding resultAnswer
   closed-refused {w} e = go (ltb mostRows (length (rows (closed ar d)))) refl
     where
-      go : (b : Bool) → ltb mostRows (length (rows (closed ar d))) ≡ b → Answered (held (closed ar d)) out (Refused w) out′
+      go : (b : Bool) → ltb mostRows (length (rows (closed ar d))) ≡ b → BuildAnswered (held (closed ar d)) out (Refused w) out′
       go true f =
           let y : CombinedRefused w ≡ CombinedRefused NoSpace = sym e ∙ x .answer ∙ ap (λ (b : Bool). cond b (CombinedRefused NoSpace) (CombinedDone (length (rows (closed ar d))) p)) f in
           let k : w ≡ NoSpace = cc in
@@ -199,10 +199,10 @@ closed-of ar os e = ap (λ (o : Outcome (Diagram × List Diagram)). andThen o (�
 
 module _ {ar ops out work : List ℕ} (l : Under ar ops) (g : Callable ops out work) {r : Stepped} {s : List ℕ} (same-length : length s ≡ length work)
     (x : Builds mostPairs (wholeOps ops) r s) where
-  pub reward-refused : {w : Refusal} {c : ℕ} → r ≡ StepRefused w c → Answered (builtClosed ar (wholeOps ops)) out (Refused w) out
+  pub reward-refused : {w : Refusal} {c : ℕ} → r ≡ StepRefused w c → BuildAnswered (builtClosed ar (wholeOps ops)) out (Refused w) out
   reward-refused {w} {c} e =
       let q : build (wholeOps ops) [] ≡ refused w = x .refusal w c e (all-final w) in
-      subst (λ (o : Outcome Diagram). Answered o out (Refused w) out) (sym (closed-of ar (wholeOps ops) q)) (record { answer = refl; words = refl })
+      subst (λ (o : Outcome Diagram). BuildAnswered o out (Refused w) out) (sym (closed-of ar (wholeOps ops) q)) (record { answer = refl; words = refl })
 
   module _ {root count : ℕ} (e : r ≡ Row root count) where
     pub reward-writable : Writable ar s count root out
@@ -217,5 +217,5 @@ module _ {ar ops out work : List ℕ} (l : Under ar ops) (g : Callable ops out w
           room = g .out-room;
         }
 
-    pub reward-row : {b : Built} {out′ : List ℕ} → Answered (held (closed ar (tree s root))) out b out′ → Answered (builtClosed ar (wholeOps ops)) out b out′
-    reward-row {b} {out′} a = subst (λ (o : Outcome Diagram). Answered o out b out′) (sym (closed-of ar (wholeOps ops) (x .row root count e .gives))) a
+    pub reward-row : {b : Built} {out′ : List ℕ} → BuildAnswered (held (closed ar (tree s root))) out b out′ → BuildAnswered (builtClosed ar (wholeOps ops)) out b out′
+    reward-row {b} {out′} a = subst (λ (o : Outcome Diagram). BuildAnswered o out b out′) (sym (closed-of ar (wholeOps ops) (x .row root count e .gives))) a

@@ -36,7 +36,7 @@ use Rattle.drawing.specs.declared.Built.the-variants.{Refused}
 use Rattle.build.specs.Machine.{built, builtClosed, mostTests}
 use Rattle.build.specs.MachineLaws.{built-text, built-reward}
 use Rattle.build.specs.ReadingLaws.{text-good, reward-good}
-use Rattle.drawing.specs.Writing.{builtAs, Buildable, Labelled, Answered}
+use Rattle.drawing.specs.Writing.{builtAs, Buildable, Labelled, BuildAnswered}
 use Rattle.drawing.specs.Drawing.{Drawable, Holds, Draws}
 use Rattle.drawing.specs.Endings.{builtTo, knownTo, Allows, drawnTo, shortLine}
 use Rattle.drawing.specs.declared.Ending.{Ending}
@@ -67,7 +67,7 @@ listing-holds ar d rest g = record {
   good = g;
 }
 
-answered-draws : {ar : List ℕ} {o p : Outcome Diagram} {out out′ : List ℕ} {r : Built} → p ≡ o → ((d : Diagram) → o ≡ ok d → Good ar d) → Answered o out r out′ → Draws ar p r out′
+answered-draws : {ar : List ℕ} {o p : Outcome Diagram} {out out′ : List ℕ} {r : Built} → p ≡ o → ((d : Diagram) → o ≡ ok d → Good ar d) → BuildAnswered o out r out′ → Draws ar p r out′
 answered-draws {ar} {o} {p} {out} {out′} e g a = record {
   answer = a .answer ∙ ap builtAs (sym e);
   result = λ d h.
@@ -84,13 +84,13 @@ pub room-in : (n : ℕ) → 4095 * 2 ≤ n → {line : List ℕ} {at : ℕ} {nam
 room-in n h d = omega (arith, h, d .short, length-replicate {A = ℕ} n 0)
 
 module _ (ar : List ℕ) (os : List Op) {x : Ending} {out out′ : List ℕ} {r : Built} where
-  pub answered-plain : x ≡ Plain → Answered (built os) out r out′ → Answered (builtTo x ar os) out r out′
+  pub answered-plain : x ≡ Plain → BuildAnswered (built os) out r out′ → BuildAnswered (builtTo x ar os) out r out′
   unfolding builtTo
-  answered-plain e a = subst (λ (y : Ending). Answered (builtTo y ar os) out r out′) (sym e) a
+  answered-plain e a = subst (λ (y : Ending). BuildAnswered (builtTo y ar os) out r out′) (sym e) a
 
-  pub answered-closed : x ≡ Closed → Answered (builtClosed ar os) out r out′ → Answered (builtTo x ar os) out r out′
+  pub answered-closed : x ≡ Closed → BuildAnswered (builtClosed ar os) out r out′ → BuildAnswered (builtTo x ar os) out r out′
   unfolding builtTo
-  answered-closed e a = subst (λ (y : Ending). Answered (builtTo y ar os) out r out′) (sym e) a
+  answered-closed e a = subst (λ (y : Ending). BuildAnswered (builtTo y ar os) out r out′) (sym e) a
 
 -- the words by how the diagram ends
 
@@ -156,7 +156,7 @@ module _ (ending : Ending) {line : List ℕ} {at : ℕ} {names arities : List �
       work-room = x .work-room;
     }
 
-    pub built-draws : {q : Built} {out′ : List ℕ} → Answered (builtTo ending arities (opsIn os′ n)) out q out′
+    pub built-draws : {q : Built} {out′ : List ℕ} → BuildAnswered (builtTo ending arities (opsIn os′ n)) out q out′
         → Draws arities (drawnTo ending σ es us) q out′
     built-draws a = answered-draws (drawn-by ending σ es us _ (sym (done .answer))) good a
       where

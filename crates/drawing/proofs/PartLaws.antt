@@ -8,7 +8,7 @@ use lib.Seq.{length-take-le, getD-take}
 use Rattle.drawing.specs.declared.Built.{Built}
 use Rattle.build.specs.Machine.{built, builtClosed}
 use Rattle.drawing.specs.Stacks.{opsFrom, wholeOps}
-use Rattle.drawing.specs.Writing.{Buildable, Labelled, Callable, Under, Answered}
+use Rattle.drawing.specs.Writing.{Buildable, Labelled, Callable, Under, BuildAnswered}
 use Rattle.names.specs.Many.{many}
 use Rattle.reading.specs.Operations.{Op}
 use Rattle.reader.specs.OperationWords.{opAt, opsIn}
@@ -72,8 +72,8 @@ part-under {ar} {ops} {n = n} l g = record {
 }
 
 module _ {ops out work : List ℕ} {n : ℕ} (g : Buildable ops n out work) {r : Built} {out′ : List ℕ} where
-  pub part-built : Answered (built (wholeOps (take (n * 2) ops))) out r out′ → Answered (built (opsIn ops n)) out r out′
-  part-built a = subst (λ (os : List Op). Answered (built os) out r out′) (part-ops ops n (g .words)) a
+  pub part-built : BuildAnswered (built (wholeOps (take (n * 2) ops))) out r out′ → BuildAnswered (built (opsIn ops n)) out r out′
+  part-built a = subst (λ (os : List Op). BuildAnswered (built os) out r out′) (part-ops ops n (g .words)) a
 
-  pub part-closed : (ar : List ℕ) → Answered (builtClosed ar (wholeOps (take (n * 2) ops))) out r out′ → Answered (builtClosed ar (opsIn ops n)) out r out′
-  part-closed ar a = subst (λ (os : List Op). Answered (builtClosed ar os) out r out′) (part-ops ops n (g .words)) a
+  pub part-closed : (ar : List ℕ) → BuildAnswered (builtClosed ar (wholeOps (take (n * 2) ops))) out r out′ → BuildAnswered (builtClosed ar (opsIn ops n)) out r out′
+  part-closed ar a = subst (λ (os : List Op). BuildAnswered (builtClosed ar os) out r out′) (part-ops ops n (g .words)) a

@@ -11,7 +11,7 @@
 --   Moves == what running one operation ensures, with room for so many pairs
 --   Buildable, Labelled, Callable, Under, Roomy, RowWritable == what building and writing require
 --   BuiltRow, Builds == what building in the working space ensures, with room for so many pairs
---   builtAs, Answered == the answer, and the result buffer then
+--   builtAs, BuildAnswered == the answer, and the result buffer then
 --
 -- Theorems
 --   draws-canonical: what the result buffer holds is the listing of the diagram, and no other's

@@ -52,7 +52,7 @@ builtAs (ok d) = Done (length (rows d))
 builtAs (refused w) = Refused w
 
 -- the answer, and the result buffer then: words behind a result stay, and a refusal changes none
-pub record Answered (o : Outcome Diagram) (out : List ℕ) (r : Built) (out′ : List ℕ) : Type 0 where
+pub record BuildAnswered (o : Outcome Diagram) (out : List ℕ) (r : Built) (out′ : List ℕ) : Type 0 where
   pub answer : r ≡ builtAs o
   pub words : out′ ≡ writtenAs o out
 

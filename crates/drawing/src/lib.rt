@@ -27,7 +27,7 @@ ghost use Rattle.reader.specs.Callers.{namesOf, argumentCount, Readable, Reads}
 ghost use Rattle.build.specs.Build.{held};
 ghost use Rattle.build.specs.Machine.{build, built, builtClosed};
 ghost use Rattle.drawing.specs.Stacks.{Ops, testAt, wholeOps, Stacked, machineOf, Moves};
-ghost use Rattle.drawing.specs.Writing.{RowWritable, Answered, Callable, Under, Buildable, Labelled, Roomy, Builds};
+ghost use Rattle.drawing.specs.Writing.{RowWritable, BuildAnswered, Callable, Under, Buildable, Labelled, Roomy, Builds};
 ghost use Rattle.drawing.specs.Drawing.{drawn, drawnClosed, Drawable, Draws};
 ghost use Rattle.drawing.specs.Endings.{builtTo, knownTo, Allows, drawnTo, shortLine};
 
@@ -241,7 +241,7 @@ fn build_rows(
 // Writes the listing of the row `root`, unless it has too many rows.
 fn write_row(space: &[u64], count: usize, root: usize, out: &mut [u64]) -> Built
     requires { ⌜ RowWritable (now space) count root (now out) ⌝ }
-    ensures { λ r. ⌜ Answered (held (tree (now (space .entry)) root)) (now (out .entry)) r (now (out .exit)) ⌝ }
+    ensures { λ r. ⌜ BuildAnswered (held (tree (now (space .entry)) root)) (now (out .entry)) r (now (out .exit)) ⌝ }
 {
     let mut marks = [0u16; diagram::SPACE_ROWS];
     let mut order = [0u16; diagram::SPACE_ROWS];
@@ -299,7 +299,7 @@ fn build_space(ops: &[u64], work: &mut [u64]) -> Stepped
 // Builds the diagram of the operations that the words hold and writes its listing.
 fn build_words(ops: &[u64], out: &mut [u64], work: &mut [u64]) -> Built
     requires { ⌜ Callable (now ops) (now out) (now work) ⌝ }
-    ensures { λ r. ⌜ Answered (built (wholeOps (now (ops .entry)))) (now (out .entry)) r (now (out .exit)) ⌝ }
+    ensures { λ r. ⌜ BuildAnswered (built (wholeOps (now (ops .entry)))) (now (out .entry)) r (now (out .exit)) ⌝ }
 {
     match build_space(ops, work) {
         Stepped::Row(root, rows) => write_row(work, rows, root, out),
@@ -310,7 +310,7 @@ fn build_words(ops: &[u64], out: &mut [u64], work: &mut [u64]) -> Built
 // Writes the listing of the row `root`, closed up, unless it has too many rows.
 fn write_closed(arities: &[u64], space: &[u64], count: usize, root: usize, out: &mut [u64]) -> Built
     requires { ⌜ Writable (now arities) (now space) count root (now out) ⌝ }
-    ensures { λ r. ⌜ Answered (held (closed (now (arities .entry)) (tree (now (space .entry)) root))) (now (out .entry)) r (now (out .exit)) ⌝ }
+    ensures { λ r. ⌜ BuildAnswered (held (closed (now (arities .entry)) (tree (now (space .entry)) root))) (now (out .entry)) r (now (out .exit)) ⌝ }
 {
     match apart::write_result(arities, space, count, root, 0, out) {
         Combined::Done(m, _) => Built::Done(m),
@@ -322,7 +322,7 @@ fn write_closed(arities: &[u64], space: &[u64], count: usize, root: usize, out: 
 fn build_closed_words(arities: &[u64], ops: &[u64], out: &mut [u64], work: &mut [u64]) -> Built
     requires { ⌜ Under (now arities) (now ops) ⌝ }
     requires { ⌜ Callable (now ops) (now out) (now work) ⌝ }
-    ensures { λ r. ⌜ Answered (builtClosed (now (arities .entry)) (wholeOps (now (ops .entry)))) (now (out .entry)) r (now (out .exit)) ⌝ }
+    ensures { λ r. ⌜ BuildAnswered (builtClosed (now (arities .entry)) (wholeOps (now (ops .entry)))) (now (out .entry)) r (now (out .exit)) ⌝ }
 {
     match build_space(ops, work) {
         Stepped::Row(root, rows) => write_closed(arities, work, rows, root, out),
@@ -333,7 +333,7 @@ fn build_closed_words(arities: &[u64], ops: &[u64], out: &mut [u64], work: &mut 
 // Builds the diagram of a line from its first n operations and writes its listing; `work` is the working space.
 pub fn build(ops: &[u64], n: usize, out: &mut [u64], work: &mut [u64]) -> Built
     requires { ⌜ Buildable (now ops) n (now out) (now work) ⌝ }
-    ensures { λ r. ⌜ Answered (built (opsIn (now (ops .entry)) n)) (now (out .entry)) r (now (out .exit)) ⌝ }
+    ensures { λ r. ⌜ BuildAnswered (built (opsIn (now (ops .entry)) n)) (now (out .entry)) r (now (out .exit)) ⌝ }
 {
     build_words(&ops[..n * 2], out, work)
 }
@@ -348,7 +348,7 @@ pub fn build_closed(
 ) -> Built
     requires { ⌜ Labelled (now arities) (now ops) n ⌝ }
     requires { ⌜ Buildable (now ops) n (now out) (now work) ⌝ }
-    ensures { λ r. ⌜ Answered (builtClosed (now (arities .entry)) (opsIn (now (ops .entry)) n)) (now (out .entry)) r (now (out .exit)) ⌝ }
+    ensures { λ r. ⌜ BuildAnswered (builtClosed (now (arities .entry)) (opsIn (now (ops .entry)) n)) (now (out .entry)) r (now (out .exit)) ⌝ }
 {
     build_closed_words(arities, &ops[..n * 2], out, work)
 }
@@ -364,7 +364,7 @@ fn build_to(
 ) -> Built
     requires { ⌜ Labelled (now arities) (now operations) n ⌝ }
     requires { ⌜ Buildable (now operations) n (now out) (now work) ⌝ }
-    ensures { λ r. ⌜ Answered (builtTo ending (now (arities .entry)) (opsIn (now (operations .entry)) n)) (now (out .entry)) r (now (out .exit)) ⌝ }
+    ensures { λ r. ⌜ BuildAnswered (builtTo ending (now (arities .entry)) (opsIn (now (operations .entry)) n)) (now (out .entry)) r (now (out .exit)) ⌝ }
 {
     match ending {
         Ending::Plain => build(operations, n, out, work),

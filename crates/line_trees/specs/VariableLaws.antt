@@ -11,6 +11,7 @@ use lib.ListN.{length, length-append}
 use lib.Seq.{length-take-le, take-all}
 use borrow.Author.Tests.{ltb-true, lt-ltb, lt-leb}
 use Rattle.basics.specs.Tests.{Flag, isTrue, isFalse, flag}
+use Rattle.basics.specs.Prefix.{Prefix, prefix-refl, prefix-snoc, prefix-trans}
 use Rattle.label.specs.Limits.{variableCount}
 use Rattle.words.specs.Keys.{keyOf}
 use Rattle.words.specs.declared.Key.{Key}
@@ -71,28 +72,21 @@ one-below us k = go (flag (isAmong k us))
     go (isFalse e) = rw e (omega (arith, place-last k us, length-append us (k ∷ [])))
 
 -- what follows only adds
-pub record Extends (us vs : List Key) : Type 0 where
-  pub more : List Key
-  pub is : vs ≡ us ++ more
-
-extends-one : (us : List Key) (k : Key) (vs : List Key) (b : Bool) → Extends (cond b us (us ++ (k ∷ []))) vs → Extends us vs
-extends-one us k vs true x = x
-extends-one us k vs false x = record { more = k ∷ x .more; is = x .is ∙ append-assoc us (k ∷ []) (x .more) }
-
-extends-none : (us : List Key) → Extends us us
-extends-none us = record { more = []; is = sym (append-nil us) }
+prefix-one : (us : List Key) (k : Key) (vs : List Key) (b : Bool) → Prefix (cond b us (us ++ (k ∷ []))) vs → Prefix us vs
+prefix-one us k vs true x = x
+prefix-one us k vs false x = prefix-trans (prefix-snoc us k) x
 
 -- of each kind
-pub extends : (ts : List T.Term) (m : Met) → Extends (m .variables) (variablesAfter m ts .variables) × Extends (m .minimums) (variablesAfter m ts .minimums)
-extends [] m = (extends-none (m .variables), extends-none (m .minimums))
+pub extends : (ts : List T.Term) (m : Met) → Prefix (m .variables) (variablesAfter m ts .variables) × Prefix (m .minimums) (variablesAfter m ts .minimums)
+extends [] m = (prefix-refl (m .variables), prefix-refl (m .minimums))
 extends (term plain n ∷ ts) m = extends ts m
 extends (term parameter n ∷ ts) m = extends ts m
 extends (term variable n ∷ ts) m =
     let x = extends ts (record { variables = withOne (m .variables) (keyOf n); minimums = m .minimums }) in
-    (extends-one (m .variables) (keyOf n) _ (isAmong (keyOf n) (m .variables)) (x .0), x .1)
+    (prefix-one (m .variables) (keyOf n) _ (isAmong (keyOf n) (m .variables)) (x .0), x .1)
 extends (term minimum n ∷ ts) m =
     let x = extends ts (record { variables = m .variables; minimums = withOne (m .minimums) (keyOf n) }) in
-    (x .0, extends-one (m .minimums) (keyOf n) _ (isAmong (keyOf n) (m .minimums)) (x .1))
+    (x .0, prefix-one (m .minimums) (keyOf n) _ (isAmong (keyOf n) (m .minimums)) (x .1))
 
 -- ===== A variable's number =====
 
@@ -119,7 +113,7 @@ pub record Numbered (first : ℕ) (vs ws : List Key) (k : Key) : Type 0 where
   pub among : isAmong k vs ≡ true
   pub number : length vs ≤ variableCount → numberIn first ws k ≡ first + placeOf k vs
 
-pub met-numbered : (first : ℕ) (us : List Key) (k : Key) (vs : List Key) → Extends (withOne us k) vs → Numbered first vs (kept (withOne us k)) k
+pub met-numbered : (first : ℕ) (us : List Key) (k : Key) (vs : List Key) → Prefix (withOne us k) vs → Numbered first vs (kept (withOne us k)) k
 unfolding isAmong
 met-numbered first us k vs x =
     let os : List Key = withOne us k in

@@ -26,13 +26,14 @@ use Rattle.state.specs.State.{meaning, State, Good, value, fixed, Fits}
 use Rattle.state.specs.ValueLaws.{low-lt, Terms-mono, value-same}
 use Rattle.state.specs.Highest.{Bound, start}
 use Rattle.state.specs.HighestLaws.{start-fits, bound-tuple}
+use Rattle.state.specs.NextLaws.{next-good}
 use Rattle.minimum.specs.Number.{Number, number}
 use Rattle.minimum.specs.NumberLaws.{number-is, number-scale}
 use Rattle.minimum.specs.ApartLaws.{number-fixed}
 use Rattle.regression.specs.Regression.{regressed}
 use Rattle.regression.specs.Parameters.{Allowed, Within, GoodTruths, WithinTruths}
-use Rattle.regression.specs.Next.{meanings, Tells}
-use Rattle.regression.specs.NextLaws.{regressed-tells, regressed-number, next-good}
+use Rattle.regression.specs.Tells.{meanings, Tells}
+use Rattle.regression.specs.TellsLaws.{regressed-tells, regressed-number}
 use Rattle.regression.specs.RegressCall.{freedOutcome}
 use Rattle.reduction.specs.Claims.{Values}
 use Rattle.reduction.specs.ClosedLaws.{within-closed, closed-number}

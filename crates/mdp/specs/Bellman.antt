@@ -2,10 +2,11 @@
 use mathlib.Core.List.{List, []}
 use Prim.Native.Nat.{ℕ, zero, suc, _+_, _*_, _^_}
 use Rattle.state.specs.State.{State, meaning, value}
+use Rattle.state.specs.Next.{next}
 use Rattle.state.specs.Max.{maxTuples, maxOf, sumOf}
 use Rattle.state.specs.Highest.{start}
 use Rattle.minimum.specs.Number.{number}
-use Rattle.regression.specs.Next.{next, meanings}
+use Rattle.regression.specs.Tells.{meanings}
 use Rattle.mdp.specs.Model.{Variant, Model, scale}
 
 -- the weight of a variant, read in s with the tuple os for the parameters

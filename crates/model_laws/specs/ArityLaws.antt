@@ -16,11 +16,11 @@ use Rattle.label.specs.Labels.{areArities, allAtMost}
 use Rattle.label.specs.ArityLaws.{arity-two, arity-words}
 
 -- every predicate has the places that it had, or had none
-pub record Grown (ar br : List ℕ) : Type 0 where
+pub record AritiesGrown (ar br : List ℕ) : Type 0 where
   pub arities : areArities br ≡ true
   pub each : (q : ℕ) → (getD br q 0 ≡ getD ar q 0) ⊎ (getD ar q 0 ≡ 0)
 
-pub grown-more : (ar br : List ℕ) → Grown ar br → (q : ℕ) → getD ar q 0 ≤ getD br q 0
+pub grown-more : (ar br : List ℕ) → AritiesGrown ar br → (q : ℕ) → getD ar q 0 ≤ getD br q 0
 grown-more ar br g q = go (g .each q)
   where
     go : (getD br q 0 ≡ getD ar q 0) ⊎ (getD ar q 0 ≡ 0) → getD ar q 0 ≤ getD br q 0
@@ -46,7 +46,7 @@ set-arities ar i a h p f =
     (set-at-most mostPlaces ar i a w f)
 
 -- a predicate of no places gets a
-pub grown-set : (ar : List ℕ) (i a : ℕ) → areArities ar ≡ true → 0 < i → getD ar i 0 ≡ 0 → a ≤ mostPlaces → Grown ar (set ar i a)
+pub grown-set : (ar : List ℕ) (i a : ℕ) → areArities ar ≡ true → 0 < i → getD ar i 0 ≡ 0 → a ≤ mostPlaces → AritiesGrown ar (set ar i a)
 grown-set ar i a h p z f = record { arities = set-arities ar i a h p f; each = λ q. go q (ℕ-discrete q i) }
   where
     go : (q : ℕ) → Dec (q ≡ i) → (getD (set ar i a) q 0 ≡ getD ar q 0) ⊎ (getD ar q 0 ≡ 0)

@@ -27,7 +27,7 @@ use Rattle.state.specs.ValueLaws.{Terms-mono}
 use Rattle.regression.specs.Parameters.{Allowed, Within}
 use Rattle.mdp.specs.Model.{Variant, Action, Every, GoodTruthDiagram, GoodVariant, GoodAction}
 use Rattle.session.specs.Good.{GoodValue}
-use Rattle.model_laws.specs.ArityLaws.{Grown, grown-more}
+use Rattle.model_laws.specs.ArityLaws.{AritiesGrown, grown-more}
 use Rattle.model_laws.specs.ActionLaws.{every-mono}
 
 -- ===== Labels =====
@@ -58,7 +58,7 @@ each-not : (t : ℕ) (ts : List ℕ) → Each (λ u. eqb t u ≡ false) ts → m
 each-not t [] h = refl
 each-not t (u ∷ ts) h = rw (h .0) (each-not t ts (h .1))
 
-module _ (ar br : List ℕ) (grown : Grown ar br) where
+module _ (ar br : List ℕ) (grown : AritiesGrown ar br) where
   -- the predicate of a has the places that it had, or had none
   abbrev Way : Atom → Type 0
   Way a = (getD br (a .predicate) 0 ≡ getD ar (a .predicate) 0) ⊎ (getD ar (a .predicate) 0 ≡ 0)

@@ -18,7 +18,7 @@ use Rattle.session.specs.Declaring.{isDeclared, Vocabulary, predicateLine, with
 use Rattle.session.specs.Good.{GoodTables, GoodSession}
 use Rattle.model_laws.specs.SessionLaws.{while-model, parts-with}
 use Rattle.model_laws.specs.ActionLaws.{length-more}
-use Rattle.model_laws.specs.ArityLaws.{Grown, grown-set}
+use Rattle.model_laws.specs.ArityLaws.{AritiesGrown, grown-set}
 use Rattle.model_laws.specs.GrowthLaws.{reward-grown, actions-grown}
 
 module _ (σ : Session) (good : GoodSession σ) (part : σ .part ≡ ModelPart) where
@@ -37,7 +37,7 @@ module _ (σ : Session) (good : GoodSession σ) (part : σ .part ≡ ModelPart) 
       tables : GoodTables (σ .names) ar
       tables = good .tables
 
-      grown : a ≤ mostPlaces → Grown ar (set ar p a)
+      grown : a ≤ mostPlaces → AritiesGrown ar (set ar p a)
       grown h = grown-set ar p a (tables .arities) (omega arith) (tables .undeclared p (omega arith)) h
 
       accepted : Accepted (λ (v : Vocabulary). GoodSession (withVocabulary σ v)) (predicateLine (record { names = σ .names; arities = ar }) k a)

@@ -17,6 +17,7 @@ use Rattle.diagram.specs.Listing.{diagramOf}
 use Rattle.diagram.specs.ListingValid.{listing-is-valid}
 use Rattle.diagram.specs.Validity.{Valid}
 use Rattle.state.specs.State.{State, Good, meaning, value}
+use Rattle.state.specs.Next.{inner, factAfter, next}
 use Rattle.state.specs.Highest.{Bound}
 use Rattle.state.specs.Lent.{factCount, stateOf, mostFacts, factRow}
 use Rattle.state.specs.Max.{gather, tuples}
@@ -24,7 +25,6 @@ use Rattle.elimination.specs.AnswerLaws.{lent-good}
 use Rattle.regression.specs.Result.{AtMost}
 use Rattle.regression.specs.RegressCall.{truthCount, truthWords}
 use Rattle.regression.specs.RegressCallLaws.{truths-none, truths-some, listings-at}
-use Rattle.regression.specs.Next.{inner, factAfter, next}
 use Rattle.reduction.specs.ListLaws.{in-upTo}
 use Rattle.reduction.specs.CombinationLaws.{in-tuples}
 use Rattle.mdp.specs.Bellman.{stateAfter}

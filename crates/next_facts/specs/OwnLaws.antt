@@ -24,8 +24,8 @@ use Rattle.diagram.specs.Validity.{Valid}
 use Rattle.diagram.specs.ListingOfDiagram.{valid-listing, diagram-listing}
 use Rattle.paths.specs.PathLaws.{mem-unmap}
 use Rattle.state.specs.State.{truth, holds, atomOf, meaning, value}
+use Rattle.state.specs.Next.{inner}
 use Rattle.state.specs.Lent.{saidBy, stateOf}
-use Rattle.regression.specs.Next.{inner}
 use Rattle.reduction.specs.ListLaws.{in-upTo}
 use Rattle.next_facts.specs.Filling.{ownTerms, ownLabel, ownWords}
 use Rattle.next_facts.specs.UnderLaws.{inner-high}

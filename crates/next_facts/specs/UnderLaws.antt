@@ -17,6 +17,7 @@ use Rattle.diagram.specs.Listing.{diagramOf}
 use Rattle.diagram.specs.DiagramOfListing.{diagram-is, good-diagram}
 use Rattle.paths.specs.PathLaws.{mem-unmap}
 use Rattle.state.specs.State.{Good, meaning, value, low, fixed}
+use Rattle.state.specs.Next.{inner}
 use Rattle.state.specs.Max.{Tuple, none, more, gather, those, tuples}
 use Rattle.state.specs.Highest.{Bound}
 use Rattle.state.specs.HighestLaws.{start-fits}
@@ -25,7 +26,6 @@ use Rattle.state.specs.ValueLaws.{low-lt, low-ge, by-low}
 use Rattle.regression.specs.Result.{AtMost}
 use Rattle.regression.specs.StepLaws.{eval-most}
 use Rattle.regression.specs.ResultLaws.{value-meaning}
-use Rattle.regression.specs.Next.{inner}
 use Rattle.reduction.specs.ListLaws.{in-upTo}
 use Rattle.reduction.specs.CombinationLaws.{in-tuples}
 use Rattle.next_facts.specs.Reach.{free, reachIn, reached}

@@ -9,6 +9,7 @@ use lib.ListN.{length, getD, set, length-append}
 use lib.Seq.{getD-at}
 use Rattle.basics.specs.Tests.{Flag, isTrue, isFalse, flag}
 use Rattle.basics.specs.Members.{mem, clash}
+use Rattle.basics.specs.Prefix.{prefix-length, prefix-getD}
 use Rattle.label.specs.Limits.{leafMark}
 use Rattle.table.specs.Chains.{prev}
 use Rattle.table.specs.ChainLaws.{prev-le, prev-gap, prev-hits}
@@ -16,8 +17,8 @@ use Rattle.diagram.specs.Sizes.{spaceRows}
 use Rattle.diagram.specs.Words.{highAt}
 use Rattle.apply.specs.declared.Operation.{Operation}
 use Rattle.plan.specs.Walk.{Pair, samePair, isEnd, pairLabel, onHigh, onLow, walked, Leading}
-use Rattle.plan.specs.WalkLaws.{mem-at, mem-nowhere, place-one, end-label, branch-label, high-below, low-below, high-leading, low-leading, extends-length, extends-getD}
-use Rattle.plan.specs.WalkLaws.{walked-old, walked-end, walked-branch, walked-extends, walked-fresh, walked-root}
+use Rattle.plan.specs.WalkLaws.{mem-at, mem-nowhere, place-one, end-label, branch-label, high-below, low-below, high-leading, low-leading}
+use Rattle.plan.specs.WalkLaws.{walked-old, walked-end, walked-branch, walked-begins, walked-fresh, walked-root}
 use Rattle.plan.specs.Plan.{keyCount, keyOf, pairOf, hashOf, keyAt, putEntry, Index, origin, Entry, Plan, Touched, wentTo, packBase, Ready, Planned, pairsAt, Reached, Overrun, Visited, Entered}
 use Rattle.plan.specs.PlanLaws.{pair-of-key, key-one, length-pairs, plan-pairs, plan-added, index-touched}
 use Rattle.plan.specs.declared.Went.{Went}
@@ -210,7 +211,7 @@ module _ {op : Operation} {x y ws heads : List ℕ} {limit count i j : ℕ} (r :
           high-full e = visited-full (record {
             many =
                 let a : limit < length us = subst (λ (q : Pair). limit < length (walked op x y q (pairsAt ws count))) high-is (v .full e .many) in
-                omega (arith, after-length, extends-length (walked-extends op x y (onLow x y (i, j)) us));
+                omega (arith, after-length, prefix-length (walked-begins op x y (onLow x y (i, j)) us));
             touched = v .full e .touched;
           })
 
@@ -247,11 +248,11 @@ module _ {op : Operation} {x y ws heads : List ℕ} {limit count i j : ℕ} (r :
 
                 first-less : t < length vs
                 unfolding us vs
-                first-less = omega (arith, high-reached .less, high-reached .count-is, extends-length (walked-extends op x y (onLow x y (i, j)) us))
+                first-less = omega (arith, high-reached .less, high-reached .count-is, prefix-length (walked-begins op x y (onLow x y (i, j)) us))
 
                 first-is : getD vs t origin ≡ onHigh x y (i, j)
                 unfolding us vs
-                first-is = extends-getD (walked-extends op x y (onLow x y (i, j)) us) origin t (omega (arith, high-reached .less, high-reached .count-is)) ∙ high-reached .number-is
+                first-is = prefix-getD (walked-begins op x y (onLow x y (i, j)) us) t origin (omega (arith, high-reached .less, high-reached .count-is)) ∙ high-reached .number-is
 
                 pub below-branch : {k : ℕ} {z₃ : Went} {ws₃ heads₃ : List ℕ} → (k ≡ keyOf (i, j)) × (k < keyCount) → Entered ws₂ heads₂ limit m k l t f z₃ ws₃ heads₃
                     → Visited op x y limit (i, j) (walked op x y (i, j) (pairsAt ws count)) z₃ ws₃ heads₃

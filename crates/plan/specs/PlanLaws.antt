@@ -9,7 +9,7 @@ use native.Mathlib.Numerals.{add-one}
 use native.Mathlib.Omega.{arith}
 use lib.ListN.{length, getD, set, length-append, length-set, List·getD-append}
 use lib.Seq.{getD-at, getD-set-same, getD-set-other, ext-getD}
-use Rattle.basics.specs.Members.{mem}
+use Rattle.basics.specs.Members.{mem, nodup-snoc}
 use Rattle.diagram.specs.Sizes.{spaceRows}
 use Rattle.diagram.specs.Words.{highAt}
 use Rattle.table.specs.Chains.{prev}
@@ -17,7 +17,7 @@ use Rattle.table.specs.Table.{mostIndexed}
 use Rattle.table.specs.ChainLaws.{test, prev-zero, prev-same, prev-other, prev-none, prev-ext}
 use Rattle.apply.specs.declared.Operation.{Operation}
 use Rattle.plan.specs.Walk.{Pair, samePair, isEnd, pairLabel, onHigh, onLow}
-use Rattle.plan.specs.WalkLaws.{pair-ext, nodup-more}
+use Rattle.plan.specs.WalkLaws.{pair-ext, pair-test}
 use Rattle.plan.specs.Plan.{buckets, keyCount, keyOf, pairOf, hashOf, keyAt, linkAt, pairLabelAt, firstAt, secondAt, hashAt, putEntry, Index, origin, Entry, Plan}
 use Rattle.plan.specs.Plan.{Clean, Touched, pairsAt}
 
@@ -309,7 +309,7 @@ module _ (op : Operation) (x y ws heads : List ℕ) (limit : ℕ) (ps : List Pai
           (λ (e : k ≡ length ps). subst (λ (z : ℕ). Entry op x y more all z (getD all z origin)) (sym e) (subst (Entry op x y more all (length ps)) (sym all-new) entry-new))
           (λ (e : k ≡ length ps → ⊥). let l : k < length ps = omega (arith, all-length) in subst (Entry op x y more all k) (sym (all-old k l)) (entry-old k l))
           (test k (length ps));
-      apart = nodup-more p ps (t .apart) new;
+      apart = nodup-snoc samePair pair-test ps p (t .apart) new;
     }
 
 -- an index of no entries; any words

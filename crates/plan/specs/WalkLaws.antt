@@ -1,17 +1,18 @@
 -- Laws of the walk of pairs: where a step leads, one step of the walk, that it only adds, what it adds, that it adds no pair twice, and that its depth does not matter.
-use mathlib.Core.Bool.{true, false, _||_, or-false}
+use mathlib.Core.Bool.{true, false, _||_}
 use mathlib.Core.Path.{_≡_, refl, sym, ap, subst, _∙_}
 use mathlib.Core.Logic.{_⊎_, inl, inr, ⊎-elim}
-use mathlib.Core.List.{List, [], _∷_, _++_, append-nil, append-assoc}
+use mathlib.Core.List.{List, [], _∷_, _++_}
 use Prim.Native.Nat.{ℕ, zero, suc, _+_, _-_, _<_, _≤_, suc-le-suc}
 use native.Mathlib.Nat.{le-of-suc-le-suc}
 use native.Mathlib.Omega.{arith}
 use borrow.Author.Tests.{eqb-true, eq-eqb, le-leb, lt-leb}
-use lib.ListN.{length, getD, length-append, List·getD-append}
+use lib.ListN.{length, getD, length-append}
 use lib.Seq.{getD-at}
 use lib.Dec.{eqb}
-use Rattle.basics.specs.Tests.{Cmp, below, equal, above, cmp, Flag, isTrue, isFalse, flag, Either, one, other, either, and-left, and-right, or-one, or-other}
-use Rattle.basics.specs.Members.{IsTest, mem, NoDup, mem-append, clash}
+use Rattle.basics.specs.Tests.{Cmp, below, equal, above, cmp, Flag, isTrue, isFalse, flag, Either, one, other, and-left, and-right, or-one, or-other}
+use Rattle.basics.specs.Members.{IsTest, mem, NoDup, clash, snoc-cases}
+use Rattle.basics.specs.Prefix.{Prefix, prefix-refl, prefix-append, prefix-trans}
 use Rattle.label.specs.Limits.{leafMark}
 use Rattle.diagram.specs.Words.{labelAt, highAt, lowAt}
 use Rattle.apply.specs.declared.Operation.{Operation}
@@ -27,14 +28,6 @@ pair-test = record {
   sound = λ p q e. pair-ext p q (eqb-true _ _ (and-left _ _ e)) (eqb-true _ _ (and-right (eqb (p .0) (q .0)) _ e));
   complete = λ p. rw (eq-eqb (p .0) (p .0) refl, eq-eqb (p .1) (p .1) refl);
 }
-
--- a pair that is the other one backwards
-pair-turned : (p q : Pair) → samePair p q ≡ false → samePair q p ≡ false
-pair-turned p q e = go (flag (samePair q p))
-  where
-    go : Flag (samePair q p) → samePair q p ≡ false
-    go (isTrue h) = clash (subst (λ (z : Pair). samePair p z ≡ true) (sym (pair-test .sound q p h)) (pair-test .complete p)) e
-    go (isFalse h) = h
 
 -- the lesser of two numbers
 pub lesser-le : (a b : ℕ) → a ≤ b → lesser a b ≡ a
@@ -169,47 +162,19 @@ module _ (op : Operation) (x y : List ℕ) (depth : ℕ) (p : Pair) (done : List
   finish-branch m e = rw (m, e, finishPairs)
 
 -- the walk only adds
-pub record Extends (done ps : List Pair) : Type 0 where
-  pub rest : List Pair
-  pub is : ps ≡ done ++ rest
-
-pub extends-same : (done : List Pair) → Extends done done
-extends-same done = record { rest = []; is = sym (append-nil done) }
-
-pub extends-more : {a b : List Pair} (l : List Pair) → Extends a b → Extends a (b ++ l)
-extends-more {a} {b} l e = record { rest = e .rest ++ l; is = ap (λ (z : List Pair). z ++ l) (e .is) ∙ append-assoc a (e .rest) l }
-
-pub extends-trans : {a b c : List Pair} → Extends a b → Extends b c → Extends a c
-extends-trans {a} {b} {c} e f = subst (Extends a) (sym (f .is)) (extends-more (f .rest) e)
-
-module _ {done ps : List Pair} (e : Extends done ps) where
-  pub extends-length : length done ≤ length ps
-  extends-length = omega (arith, ap length (e .is), length-append done (e .rest))
-
-  pub extends-getD : (o : Pair) (k : ℕ) → k < length done → getD ps k o ≡ getD done k o
-  extends-getD o k h = ap (λ (l : List Pair). getD l k o) (e .is) ∙ List·getD-append done (e .rest) o k h
-
-pub finish-extends : (op : Operation) (x y : List ℕ) (depth : ℕ) (p : Pair) (done : List Pair) → Extends done (finishPairs op x y depth p done)
+pub finish-begins : (op : Operation) (x y : List ℕ) (depth : ℕ) (p : Pair) (done : List Pair) → Prefix done (finishPairs op x y depth p done)
 unfolding finishPairs
-finish-extends op x y zero p done = extends-same done
-finish-extends op x y (suc depth) p done =
-    go (flag (mem samePair p done)) (flag (isEnd op x y p)) (finish-extends op x y depth (onHigh x y p) done)
-    (finish-extends op x y depth (onLow x y p) (finishPairs op x y depth (onHigh x y p) done))
+finish-begins op x y zero p done = prefix-refl done
+finish-begins op x y (suc depth) p done =
+    go (flag (mem samePair p done)) (flag (isEnd op x y p)) (finish-begins op x y depth (onHigh x y p) done)
+    (finish-begins op x y depth (onLow x y p) (finishPairs op x y depth (onHigh x y p) done))
   where
-    go : Flag (mem samePair p done) → Flag (isEnd op x y p) → Extends done (finishPairs op x y depth (onHigh x y p) done)
-        → Extends (finishPairs op x y depth (onHigh x y p) done) (finishPairs op x y depth (onLow x y p) (finishPairs op x y depth (onHigh x y p) done))
-        → Extends done (finishPairs op x y (suc depth) p done)
-    go (isTrue m) e a b = subst (Extends done) (sym (finish-old op x y depth p done m)) (extends-same done)
-    go (isFalse m) (isTrue e) a b = subst (Extends done) (sym (finish-end op x y depth p done m e)) (extends-more _ (extends-same done))
-    go (isFalse m) (isFalse e) a b = subst (Extends done) (sym (finish-branch op x y depth p done m e)) (extends-more _ (extends-trans a b))
-
--- membership of a list with one more pair
-pub mem-more : (q p : Pair) (l : List Pair) → mem samePair q (l ++ (p ∷ [])) ≡ true → (mem samePair q l ≡ true) ⊎ (q ≡ p)
-mem-more q p l h = go (either (mem samePair q l) (samePair q p || false) (sym (mem-append samePair q l (p ∷ [])) ∙ h))
-  where
-    go : Either (mem samePair q l) (samePair q p || false) → (mem samePair q l ≡ true) ⊎ (q ≡ p)
-    go (one e) = inl e
-    go (other e) = inr (pair-test .sound q p (sym (or-false (samePair q p)) ∙ e))
+    go : Flag (mem samePair p done) → Flag (isEnd op x y p) → Prefix done (finishPairs op x y depth (onHigh x y p) done)
+        → Prefix (finishPairs op x y depth (onHigh x y p) done) (finishPairs op x y depth (onLow x y p) (finishPairs op x y depth (onHigh x y p) done))
+        → Prefix done (finishPairs op x y (suc depth) p done)
+    go (isTrue m) e a b = subst (Prefix done) (sym (finish-old op x y depth p done m)) (prefix-refl done)
+    go (isFalse m) (isTrue e) a b = subst (Prefix done) (sym (finish-end op x y depth p done m e)) (prefix-append _ (prefix-refl done))
+    go (isFalse m) (isFalse e) a b = subst (Prefix done) (sym (finish-branch op x y depth p done m e)) (prefix-append _ (prefix-trans a b))
 
 -- membership by index
 pub mem-at : (o : Pair) (ps : List Pair) (k : ℕ) → k < length ps → mem samePair (getD ps k o) ps ≡ true
@@ -236,7 +201,11 @@ finish-members op x y (suc depth) p done a q h =
   where
     self : (l : List Pair) → (mem samePair q l ≡ true → (mem samePair q done ≡ true) ⊎ Under q p) → mem samePair q (l ++ (p ∷ [])) ≡ true
         → (mem samePair q done ≡ true) ⊎ Under q p
-    self l f k = ⊎-elim f (λ (e : q ≡ p). inr (record { first = omega (arith, ap (λ (z : Pair). z .0) e); second = omega (arith, ap (λ (z : Pair). z .1) e) })) (mem-more q p l k)
+    self l f k = end (snoc-cases samePair q p l k)
+      where
+        end : Either (mem samePair q l) (samePair q p) → (mem samePair q done ≡ true) ⊎ Under q p
+        end (one e) = f e
+        end (other e) = let s = pair-test .sound q p e in inr (record { first = omega (arith, ap (λ (z : Pair). z .0) s); second = omega (arith, ap (λ (z : Pair). z .1) s) })
 
     go : Flag (mem samePair p done) → Flag (isEnd op x y p)
         → (Leading x y (onHigh x y p) → (q : Pair) → mem samePair q (finishPairs op x y depth (onHigh x y p) done) ≡ true → (mem samePair q done ≡ true) ⊎ Under q (onHigh x y p))
@@ -268,16 +237,6 @@ finish-fresh op x y f g p done a e m = go (flag (mem samePair p (finishPairs op 
         (not-under (onLow x y p) (low-below op x y p a e))
         (finish-members op x y f (onLow x y p) (finishPairs op x y g (onHigh x y p) done) (low-leading op x y p a e) p h))
     go (isFalse h) = h
-
--- no pair twice
-pub nodup-more : (p : Pair) (l : List Pair) → NoDup samePair l → mem samePair p l ≡ false → NoDup samePair (l ++ (p ∷ []))
-nodup-more p [] d m = (refl, tt)
-nodup-more p (q ∷ l) d m = go (flag (samePair p q)) (flag (mem samePair p l)) (nodup-more p l (d .1))
-  where
-    go : Flag (samePair p q) → Flag (mem samePair p l) → (mem samePair p l ≡ false → NoDup samePair (l ++ (p ∷ []))) → NoDup samePair ((q ∷ l) ++ (p ∷ []))
-    go (isTrue e) n u = clash (or-one (samePair p q) (mem samePair p l) e) m
-    go (isFalse e) (isTrue n) u = clash (or-other (samePair p q) (mem samePair p l) n) m
-    go (isFalse e) (isFalse n) u = (mem-append samePair q l (p ∷ []) ∙ rw (d .0, pair-turned p q e), u n)
 
 -- any depth above the sum of the pair's rows will do
 pub finish-depth : (op : Operation) (x y : List ℕ) (f g : ℕ) (p : Pair) (done : List Pair) → Leading x y p → p .0 + p .1 < f → p .0 + p .1 < g
@@ -321,9 +280,9 @@ module _ (op : Operation) (x y : List ℕ) (p : Pair) (done : List Pair) where
       (finish-depth op x y (p .0 + p .1) (suc (onHigh x y p .0 + onHigh x y p .1)) (onHigh x y p) done (high-leading op x y p a e) b (omega arith))
       ∙ finish-depth op x y (p .0 + p .1) (suc (onLow x y p .0 + onLow x y p .1)) (onLow x y p) (walked op x y (onHigh x y p) done) (low-leading op x y p a e) c (omega arith))
 
-  pub walked-extends : Extends done (walked op x y p done)
+  pub walked-begins : Prefix done (walked op x y p done)
   unfolding walked
-  walked-extends = finish-extends op x y (suc (p .0 + p .1)) p done
+  walked-begins = finish-begins op x y (suc (p .0 + p .1)) p done
 
   pub walked-fresh : Leading x y p → isEnd op x y p ≡ false → mem samePair p done ≡ false → mem samePair p (walked op x y (onLow x y p) (walked op x y (onHigh x y p) done)) ≡ false
   unfolding walked

@@ -14,11 +14,11 @@ use Rattle.apply.specs.declared.Names.{Names}
 use Rattle.mdp.specs.Backup.{combined}
 use Rattle.steps.specs.declared.Step.{Step}
 use Rattle.steps.specs.declared.Step.the-variants.{Rows, Refused}
-use Rattle.steps.specs.Steps.{Given, Begins, Operands, Folding}
+use Rattle.steps.specs.Steps.{Given, BufferListing, Operands, Folding}
 use Rattle.steps.specs.GivenLaws.{refused-then, done-then, given-same}
 
 -- p is o, folded by an operation into the listing that the buffer begins with
-module _ {ar out : List ℕ} {n : ℕ} (s : Begins ar n out) (op : Operation) (names : Names) {o p : Outcome Diagram}
+module _ {ar out : List ℕ} {n : ℕ} (s : BufferListing ar n out) (op : Operation) (names : Names) {o p : Outcome Diagram}
     (e : p ≡ andThen o (λ q. combined op names ar (diagramOf (take (n * 3) out)) q)) {r : Step} {part : List ℕ} (x : Given ar o r part) where
   pub folded-refused : {w : Refusal} → r ≡ Refused w → {out′ : List ℕ} → Given ar p r out′
   folded-refused h = refused-then (λ q. combined op names ar (diagramOf (take (n * 3) out)) q) x h e

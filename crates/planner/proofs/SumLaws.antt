@@ -23,7 +23,7 @@ use Rattle.model.specs.declared.Head.{Head}
 use Rattle.model.specs.Layout.{actionWords, variantPlace, variantAt, variantsOf, actionAt, modelOf, Laid}
 use Rattle.steps.specs.declared.Step.{Step}
 use Rattle.steps.specs.declared.Step.the-variants.{Rows, Refused}
-use Rattle.steps.specs.Steps.{Given, Begun, Begins}
+use Rattle.steps.specs.Steps.{Given, Begun, BufferListing}
 use Rattle.planner.specs.Parts.{variantAdded, freedUp, actionValue, actionTried}
 use Rattle.planner.specs.PartLaws.{sum-more, best-more, sum-fits}
 use Rattle.planner.specs.Tasks.{VariantTask, ValueTask, ActionTask, FreeUp}
@@ -93,7 +93,7 @@ module _ {ar listings table : List ℕ} {a : ℕ} (t : ActionTask ar listings ta
       work-room = omega (arith, q, u .work-room);
     }
 
-    pub summing-begins : Begins ar n out
+    pub summing-begins : BufferListing ar n out
     summing-begins = folded-begins Summed D F (sum-more ar g (diagramOf value) (leaf 0)) (x .folded)
 
     module _ {r : Step} {out′ : List ℕ} (w : Given ar (variantAdded ar g (diagramOf value) (diagramOf (take (n * 3) out)) (variantAt listings table (variantPlace a v))) r out′) where
@@ -189,7 +189,7 @@ module _ {ar listings table : List ℕ} {h : Head} (t : Laid ar listings table h
       inside = omega (arith, t .room, t .few, l);
     }
 
-    pub trying-begins : Begins ar n out
+    pub trying-begins : BufferListing ar n out
     trying-begins = folded-begins G E (actionAt listings table) (best-more ar (h .numerator) (diagramOf value) (leaf 0)) (x .folded)
 
     module _ {r : Step} {out′ : List ℕ} (w : Given ar (actionTried ar (h .numerator) (diagramOf value) (diagramOf (take (n * 3) out)) (actionAt listings table a)) r out′) where

@@ -18,7 +18,7 @@ use Rattle.regression.specs.declared.Regressed.{Regressed}
 use Rattle.regression.specs.declared.Regressed.the-variants.{Done as RegressedDone, Refused as NotRegressed}
 use Rattle.regression.specs.Regression.{Truths, regressed}
 use Rattle.regression.specs.RegressCall.{truthsOf, regressedAs, writtenAs}
-use Rattle.regression.specs.NextLaws.{regressed-tells}
+use Rattle.regression.specs.TellsLaws.{regressed-tells}
 use Rattle.mdp.specs.Model.{Variant}
 use Rattle.mdp.specs.Backup.{combined}
 use Rattle.regress.specs.Regressing.{Regressable}

@@ -16,7 +16,7 @@ use Rattle.apply.specs.declared.Names.the-variants.{Apart, Shared}
 use Rattle.state.specs.State.{meaning}
 use Rattle.regression.specs.Regression.{regressed}
 use Rattle.regression.specs.Parameters.{Within}
-use Rattle.regression.specs.NextLaws.{regressed-tells}
+use Rattle.regression.specs.TellsLaws.{regressed-tells}
 use Rattle.regression.specs.RegressCall.{freedOutcome}
 use Rattle.mdp.specs.Model.{Variant, Action, Every, GoodVariant, GoodAction}
 use Rattle.mdp.specs.Backup.{combined, variantsSum, actionsBest}

@@ -19,7 +19,7 @@ ghost use Rattle.model.specs.Layout.{variantAt, actionAt, rewardWords, modelOf,
 ghost use Rattle.planner.specs.Run.{Takeable, Taken};
 ghost use Rattle.planner.specs.Parts.{variantProduct, variantAdded, freedUp, actionValue, actionTried};
 ghost use Rattle.planner.specs.Backed.{scaleOf, powerAs, Numbers, Powered, BackedUp, backedStep};
-ghost use Rattle.steps.specs.Steps.{Begins, Given, Wrote};
+ghost use Rattle.steps.specs.Steps.{BufferListing, Given, Wrote};
 ghost use Rattle.planner.specs.Tasks.{regressedStep, freedStep, VariantTask, WeightTask, ActionTask, ValueTask, FreeUp, RewardTask, Standing};
 
 // S^(k+1), or that it or k would pass its limit.
@@ -132,7 +132,7 @@ fn add_variant(
 ) -> Step
     requires { ⌜ VariantTask (now arities) (now listings) (now table) place (now value) (now sum) (now work) ⌝ }
     requires { ⌜ g ≤ highestValue ⌝ }
-    requires { ⌜ Begins (now arities) n (now sum) ⌝ }
+    requires { ⌜ BufferListing (now arities) n (now sum) ⌝ }
     ensures { λ r. ⌜ Given (now (arities .entry)) (variantAdded (now (arities .entry)) g (diagramOf (now (value .entry))) (diagramOf (take (n * 3) (now (sum .entry)))) (variantAt (now (listings .entry)) (now (table .entry)) place)) r (now (sum .exit)) ⌝ }
 {
     let mut product = [0u64; diagram::RESULT_WORDS];
@@ -243,7 +243,7 @@ fn try_action(
 ) -> Step
     requires { ⌜ ActionTask (now arities) (now listings) (now table) action ⌝ }
     requires { ⌜ ValueTask (now arities) (now value) g (now best) (now work) ⌝ }
-    requires { ⌜ Begins (now arities) n (now best) ⌝ }
+    requires { ⌜ BufferListing (now arities) n (now best) ⌝ }
     ensures { λ r. ⌜ Given (now (arities .entry)) (actionTried (now (arities .entry)) g (diagramOf (now (value .entry))) (diagramOf (take (n * 3) (now (best .entry)))) (actionAt (now (listings .entry)) (now (table .entry)) action)) r (now (best .exit)) ⌝ }
 {
     let mut gain = [0u64; diagram::RESULT_WORDS];

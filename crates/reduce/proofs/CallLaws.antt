@@ -33,7 +33,7 @@ use Rattle.pruning.specs.Pruning.{keptOf, Agrees, Prunable, Pruned}
 use Rattle.reduce.specs.Routing.{winning, staysIn, Won}
 use Rattle.reduce.specs.FormedLaws.{winner-below}
 use Rattle.reduce.specs.Searching.{isMarked}
-use Rattle.reduce.specs.Winning.{Winnable, Winning, Plain, Answered}
+use Rattle.reduce.specs.Winning.{Winnable, Winning, Plain, ReduceCallAnswered}
 
 -- ===== `count_valuations` =====
 module _ {v p j : ℕ} (few : v ≤ variableCount) (e : p ≡ v ^ j) (h : p ≤ mostRuns) (l : j < v) where
@@ -185,7 +185,7 @@ module _ {ar ws counts used : List ℕ} {n m v all : ℕ} {out work : List ℕ} 
   }
 
   module _ {wins wins′ : List ℕ} {x : ℕ} (w : Winning ar ws m wins wins′ x) where
-    pub plain-many : mostFormed < x → Answered ar ws out (Refused Combinations) out
+    pub plain-many : mostFormed < x → ReduceCallAnswered ar ws out (Refused Combinations) out
     plain-many h =
         let e : reduceAnswer ar d ≡ refused Combinations = answer-at true (lt-ltb mostFormed (formed ar d) (omega (arith, w .answer))) in
         record { answer = sym (ap answerOf e); words = sym (ap (bufferOf out) e) }
@@ -213,7 +213,7 @@ module _ {ar ws counts used : List ℕ} {n m v all : ℕ} {out work : List ℕ} 
       left-is = λ i. closed ar (reduced (keeping (λ r b. stays-is r b i) d))
 
       pub plain-done : {edges out′ : List ℕ} {k : ℕ} → Agrees ws edges (staysIn ws wins′ m)
-          → ((stays : Diagram → Bool → Bool) → Agrees ws edges stays → Pruned ar ws stays out k out′) → Answered ar ws out (Done k) out′
+          → ((stays : Diagram → Bool → Bool) → Agrees ws edges stays → Pruned ar ws stays out k out′) → ReduceCallAnswered ar ws out (Done k) out′
       plain-done a p =
           let t = p (staysIn ws wins′ m) a in
           let e : reduceAnswer ar d ≡ ok (reducedDiagram ar d) = answer-at false (le-ltb mostFormed (formed ar d) (omega (arith, w .answer))) in

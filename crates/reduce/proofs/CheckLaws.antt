@@ -31,10 +31,10 @@ use Rattle.paths.specs.Routes.{Rows, Counted, Routed}
 use Rattle.reduction.specs.declared.Reduced.{Reduced}
 use Rattle.reduction.specs.declared.Reduced.the-variants.{Refused}
 use Rattle.reduction.specs.Reduction.{hasKinds, mostRuns, runs, reduceAnswer, answerOf, bufferOf, hasParameter, reduceCall}
-use Rattle.reduce.specs.Winning.{Plain, Answered, Reducible}
+use Rattle.reduce.specs.Winning.{Plain, ReduceCallAnswered, Reducible}
 use Rattle.reduce.proofs.CallLaws.{answer-paths, answer-kinds, answer-runs}
 
-answered : (ar ws out : List ℕ) (x : Refusal) → reduceAnswer ar (diagramOf ws) ≡ refused x → Answered ar ws out (Refused x) out
+answered : (ar ws out : List ℕ) (x : Refusal) → reduceAnswer ar (diagramOf ws) ≡ refused x → ReduceCallAnswered ar ws out (Refused x) out
 answered ar ws out x e = record { answer = sym (ap answerOf e); words = sym (ap (bufferOf out) e) }
 
 module _ {ar ws out work : List ℕ} (g : Reducible ar ws out work) where
@@ -63,7 +63,7 @@ module _ {ar ws out work : List ℕ} (g : Reducible ar ws out work) where
     count-is : M ≡ min 257 (length (paths d))
     count-is = c .each (length ws / 3 - 1) (omega (arith, check-some)) ∙ ap (λ (x : Diagram). min 257 (length (paths x))) root-is
 
-    pub check-many : mostPaths < M → Answered ar ws out (Refused Paths) out
+    pub check-many : mostPaths < M → ReduceCallAnswered ar ws out (Refused Paths) out
     check-many h = answered ar ws out Paths (answer-paths ar d (omega (arith, count-is)))
 
     module _ (h : M ≤ mostPaths) where
@@ -83,7 +83,7 @@ module _ {ar ws out work : List ℕ} (g : Reducible ar ws out work) where
       }
 
       module _ {b : Bool} (q : b ≡ hasKinds ar d) where
-        pub check-kinds : b ≡ true → Answered ar ws out (Refused Kinds) out
+        pub check-kinds : b ≡ true → ReduceCallAnswered ar ws out (Refused Kinds) out
         check-kinds e = answered ar ws out Kinds (answer-kinds ar d (omega (arith, few)) (sym q ∙ e))
 
         module _ (e : b ≡ false) {used : List ℕ} (u : Used ar d used) {v : ℕ} (k : v ≡ markedVariables used) where
@@ -104,7 +104,7 @@ module _ {ar ws out work : List ℕ} (g : Reducible ar ws out work) where
             pub check-small : all * M ≤ suc mostRuns * mostPaths
             check-small = mul-le-mul (let z : all ≤ suc mostRuns = omega arith in z) h
 
-            pub check-runs : mostRuns < all * M → Answered ar ws out (Refused Runs) out
+            pub check-runs : mostRuns < all * M → ReduceCallAnswered ar ws out (Refused Runs) out
             check-runs l = answered ar ws out Runs (answer-runs ar d (omega (arith, few)) kinds (subst (λ (x : ℕ). mostRuns < x) (sym runs-are) (go (cmp mostRuns (v ^ v)))))
               where
                 same : v ^ v ≤ mostRuns → mostRuns < v ^ v * M
@@ -188,6 +188,6 @@ module _ (ar ws out work : List ℕ) where
           unfolding pick
           call-unbound z = not-made Unbound (asked true (sym q ∙ z))
 
-          pub call-done : p ≡ false → {r : Reduced} {out′ : List ℕ} → Answered ar ws out r out′ → Promised ar ws out work r out′
+          pub call-done : p ≡ false → {r : Reduced} {out′ : List ℕ} → ReduceCallAnswered ar ws out r out′ → Promised ar ws out work r out′
           unfolding pick
           call-done z {r} {out′} a = let e : Call ≡ reduceAnswer ar (diagramOf ws) = asked false (sym q ∙ z) in (a .answer ∙ sym (ap answerOf e), a .words ∙ sym (ap (bufferOf out) e))

@@ -9,7 +9,7 @@ use lib.ListN.{length, length-map}
 use lib.Dec.{eqb}
 use borrow.Author.Tests.{eqb-true, eqb-false, eq-eqb, ne-eqb, not-true}
 use Rattle.basics.specs.Tests.{Flag, isTrue, isFalse, flag, and-left, and-right, Either, one, other, either, or-one, or-other}
-use Rattle.basics.specs.Members.{mem, mem-append, clash}
+use Rattle.basics.specs.Members.{mem, clash, append-one, append-other, append-cases}
 use Rattle.diagram.specs.Diagram.{Diagram, leaf, branch}
 use Rattle.paths.specs.Paths.{Path, stepBefore, paths, literals}
 use Rattle.paths.specs.Routes.{bit, stepOn}
@@ -130,15 +130,6 @@ unfoldable pub learnt : List ℕ → List ℕ → List ℕ
 learnt [] known = known
 learnt (c ∷ cs) known = pickKnown (signOf known (c / 2)) (learnt cs known) (learnt cs known) (learnt cs (c ∷ known))
 
-mem-left : (x : ℕ) (xs ys : List ℕ) → mem eqb x xs ≡ true → mem eqb x (xs ++ ys) ≡ true
-mem-left x xs ys m = mem-append eqb x xs ys ∙ or-one _ _ m
-
-mem-right : (x : ℕ) (xs ys : List ℕ) → mem eqb x ys ≡ true → mem eqb x (xs ++ ys) ≡ true
-mem-right x xs ys m = mem-append eqb x xs ys ∙ or-other (mem eqb x xs) _ m
-
-mem-both : (x : ℕ) (xs ys : List ℕ) → mem eqb x (xs ++ ys) ≡ true → Either (mem eqb x xs) (mem eqb x ys)
-mem-both x xs ys m = either (mem eqb x xs) (mem eqb x ys) (sym (mem-append eqb x xs ys) ∙ m)
-
 -- one that is there already
 more-within : (c : ℕ) (xs : List ℕ) → mem eqb c xs ≡ true → Within (c ∷ xs) xs
 more-within c xs m x n = go (either (eqb x c) (mem eqb x xs) n)
@@ -152,26 +143,26 @@ within-more c xs x n = or-other (eqb x c) (mem eqb x xs) n
 
 -- one in the middle
 middle-front : (c : ℕ) (xs ys : List ℕ) → Within (xs ++ (c ∷ ys)) (c ∷ (xs ++ ys))
-middle-front c xs ys x n = go (mem-both x xs (c ∷ ys) n)
+middle-front c xs ys x n = go (append-cases eqb x xs (c ∷ ys) n)
   where
     last : Either (eqb x c) (mem eqb x ys) → mem eqb x (c ∷ (xs ++ ys)) ≡ true
     last (one e) = or-one (eqb x c) (mem eqb x (xs ++ ys)) e
-    last (other e) = or-other (eqb x c) _ (mem-right x xs ys e)
+    last (other e) = or-other (eqb x c) _ (append-other eqb x xs ys e)
 
     go : Either (mem eqb x xs) (mem eqb x (c ∷ ys)) → mem eqb x (c ∷ (xs ++ ys)) ≡ true
-    go (one e) = or-other (eqb x c) _ (mem-left x xs ys e)
+    go (one e) = or-other (eqb x c) _ (append-one eqb x xs ys e)
     go (other e) = last (either (eqb x c) (mem eqb x ys) e)
 
 front-middle : (c : ℕ) (xs ys : List ℕ) → Within (c ∷ (xs ++ ys)) (xs ++ (c ∷ ys))
 front-middle c xs ys x n = go (either (eqb x c) (mem eqb x (xs ++ ys)) n)
   where
     rest : Either (mem eqb x xs) (mem eqb x ys) → mem eqb x (xs ++ (c ∷ ys)) ≡ true
-    rest (one e) = mem-left x xs (c ∷ ys) e
-    rest (other e) = mem-right x xs (c ∷ ys) (or-other (eqb x c) _ e)
+    rest (one e) = append-one eqb x xs (c ∷ ys) e
+    rest (other e) = append-other eqb x xs (c ∷ ys) (or-other (eqb x c) _ e)
 
     go : Either (eqb x c) (mem eqb x (xs ++ ys)) → mem eqb x (xs ++ (c ∷ ys)) ≡ true
-    go (one e) = mem-right x xs (c ∷ ys) (or-one (eqb x c) (mem eqb x ys) e)
-    go (other e) = rest (mem-both x xs ys e)
+    go (one e) = append-other eqb x xs (c ∷ ys) (or-one (eqb x c) (mem eqb x ys) e)
+    go (other e) = rest (append-cases eqb x xs ys e)
 
 -- the literals are allowed if no fact is both true and false then, and what is known then are both
 pub record Allowed (cs known : List ℕ) : Type 0 where
@@ -239,7 +230,7 @@ all-allowed (c ∷ cs) known q = go (signOf known (c / 2)) refl (all-allowed cs 
     old : (s : ℕ) → signOf known (c / 2) ≡ s → s < 2 → c % 2 ≡ s → allowed (c ∷ cs) known ≡ allowed cs known → learnt (c ∷ cs) known ≡ learnt cs known → Allowed cs known → Allowed (c ∷ cs) known
     old s e h z a l ih =
         let m : mem eqb c known ≡ true = ap (λ (y : ℕ). mem eqb y known) (let w : c ≡ c / 2 * 2 + s = omega arith in w) ∙ sign-known known (c / 2) s e h in
-        let n : mem eqb c (cs ++ known) ≡ true = mem-right c cs known m in
+        let n : mem eqb c (cs ++ known) ≡ true = append-other eqb c cs known m in
         record {
           test = a ∙ ih .test ∙ clear-same (cs ++ known) (c ∷ (cs ++ known)) (within-more c (cs ++ known)) (more-within c (cs ++ known) n);
           learns = λ t x i. within-more c (cs ++ known) x (ih .learns (sym a ∙ t) x (ap (mem eqb x) (sym l) ∙ i));
@@ -249,7 +240,7 @@ all-allowed (c ∷ cs) known q = go (signOf known (c / 2)) refl (all-allowed cs 
     -- it is against what is known
     bad : (s : ℕ) → signOf known (c / 2) ≡ s → s < 2 → (c % 2 ≡ s → ⊥) → allowed (c ∷ cs) known ≡ false → Allowed (c ∷ cs) known
     bad s e h z a = record {
-      test = a ∙ sym (opposite c s (cs ++ known) (mem-right (c / 2 * 2 + s) cs known (sign-known known (c / 2) s e h)) z h);
+      test = a ∙ sym (opposite c s (cs ++ known) (append-other eqb (c / 2 * 2 + s) cs known (sign-known known (c / 2) s e h)) z h);
       learns = λ t. clash t a;
       keeps = λ t. clash t a;
     }
@@ -390,8 +381,8 @@ module _ (fact : ℕ → ℕ) where
           (over-new lo known cf (k + length (paths t)) (λ cs. (unfold allowed in (rw (lo-half, e)))) (λ cs. (unfold learnt in (rw (lo-half, e)))))))
 
 pub append-within : (xs ys zs : List ℕ) → Within ys zs → Within (xs ++ ys) (xs ++ zs)
-append-within xs ys zs w x m = go (mem-both x xs ys m)
+append-within xs ys zs w x m = go (append-cases eqb x xs ys m)
   where
     go : Either (mem eqb x xs) (mem eqb x ys) → mem eqb x (xs ++ zs) ≡ true
-    go (one e) = mem-left x xs zs e
-    go (other e) = mem-right x xs zs (w x e)
+    go (one e) = append-one eqb x xs zs e
+    go (other e) = append-other eqb x xs zs (w x e)

@@ -16,7 +16,7 @@
 --
 -- Inner contracts: the call
 --   Winnable, Winning == the winning paths are found, and the combinations formed counted
---   Plain, Reducible, Answered == what the parts of the call require, and what it promises
+--   Plain, Reducible, ReduceCallAnswered == what the parts of the call require, and what it promises
 --
 -- Theorems
 --   opposed-clash: two ground literals are opposed exactly if their numbers clash

@@ -47,7 +47,7 @@ pub record Plain (ar ws counts used : List ℕ) (n m v all : ℕ) (out work : Li
   pub work-room : spaceWords ≤ length work
 
 -- what the call promises: the answer, and the result buffer
-pub record Answered (ar ws out : List ℕ) (r : Reduced) (out′ : List ℕ) : Type 0 where
+pub record ReduceCallAnswered (ar ws out : List ℕ) (r : Reduced) (out′ : List ℕ) : Type 0 where
   pub answer : r ≡ answerOf (reduceAnswer ar (diagramOf ws))
   pub words : out′ ≡ bufferOf out (reduceAnswer ar (diagramOf ws))
 

@@ -21,7 +21,7 @@ ghost use Rattle.pruning.specs.Pruning.{Agrees};
 ghost use Rattle.reduce.specs.Routing.{winning, isOnPath, staysIn, Won, Edged};
 ghost use Rattle.reduce.specs.Searching.{stacked, signOf, betterOf, Searching, Standing, Reached, Visited, Forked};
 ghost use Rattle.reduce.specs.Tables.{Divided, Placed, Ranked, Mapping, Mapped, factWord, Labelled, Filled, digits, Blocked, Grounded, Tabling, Tabled};
-ghost use Rattle.reduce.specs.Winning.{Winnable, Winning, Plain, Answered, someUsed, Markable, Reducible};
+ghost use Rattle.reduce.specs.Winning.{Winnable, Winning, Plain, ReduceCallAnswered, someUsed, Markable, Reducible};
 
 // Facts at most: valuations times rows, of which there are fewer than twice the paths.
 const FACTS: usize = 1024;
@@ -550,7 +550,7 @@ fn reduce_plain(
     work: &mut [u64],
 ) -> Reduced
     requires { ⌜ Plain (now arities) (now words) (now counts) (now used) n m v all (now out) (now work) ⌝ }
-    ensures { λ r. ⌜ Answered (now (arities .entry)) (now (words .entry)) (now (out .entry)) r (now (out .exit)) ⌝ }
+    ensures { λ r. ⌜ ReduceCallAnswered (now (arities .entry)) (now (words .entry)) (now (out .entry)) r (now (out .exit)) ⌝ }
 {
     let mut wins = [0u64; PATHS];
     let formed = find_winners(arities, words, counts, used, n, m, v, all, &mut wins);
@@ -598,7 +598,7 @@ fn has_kinds(arities: &[u64], words: &[u64], used: &[u64], n: usize) -> bool
 // Reduces a listing that is one: 17 over 256 paths, 26, 27, 28, else the rows left.
 pub fn reduce_checked(arities: &[u64], words: &[u64], out: &mut [u64], work: &mut [u64]) -> Reduced
     requires { ⌜ Reducible (now arities) (now words) (now out) (now work) ⌝ }
-    ensures { λ r. ⌜ Answered (now (arities .entry)) (now (words .entry)) (now (out .entry)) r (now (out .exit)) ⌝ }
+    ensures { λ r. ⌜ ReduceCallAnswered (now (arities .entry)) (now (words .entry)) (now (out .entry)) r (now (out .exit)) ⌝ }
 {
     let n = words.len() / 3;
     let mut counts = [0u64; diagram::ROWS];

@@ -64,7 +64,7 @@ pub record Clash (gs : List Ground) : Type 0 where
 -- ===== Answers =====
 
 -- none of 17, 26, 27 and 28 is met, and r is the reduced diagram
-pub record Answered (ar : List ℕ) (d r : Diagram) : Type 0 where
+pub record ReductionAnswered (ar : List ℕ) (d r : Diagram) : Type 0 where
   pub paths-few : length (paths d) ≤ mostPaths
   pub general : isGeneral ar d ≡ true
   pub plain : isPlain ar d ≡ true

@@ -36,7 +36,7 @@
 --   AtLeast == a path has no place behind another
 --   allBut == every edge but one
 --   Clash == a fact that is both true and false
---   Answered == none of 17, 26, 27 and 28 is met
+--   ReductionAnswered == none of 17, 26, 27 and 28 is met
 --   Called == nor 14, 18 and 6 by the call
 --   Values == a value diagram of the values y: with a listing, closed up, without parameters, and y its number in every state
 --

@@ -33,7 +33,7 @@ use Rattle.paths.specs.Paths.{paths, mostPaths}
 use Rattle.cutting.specs.Cut.{reduced}
 use Rattle.reduction.specs.Combinations.{someOf, formed, winners}
 use Rattle.reduction.specs.Reduction.{isOn, keeping, reducedDiagram, isGeneral, hasKinds, runs, mostRuns, mostFormed, reduceAnswer}
-use Rattle.reduction.specs.Claims.{Answered, Values}
+use Rattle.reduction.specs.Claims.{ReductionAnswered, Values}
 use Rattle.reduction.specs.KeepingLaws.{keeping-every, keeping-good, keeping-few, reduced-every}
 use Rattle.reduction.specs.ModelLaws.{Varied, keeping-number}
 use Rattle.reduction.specs.ClosedLaws.{within-closed, closed-number}
@@ -68,7 +68,7 @@ kinds-none ar d e =
     let q = not-false (isGeneral ar d && isPlain ar d) e in
     (and-left (isGeneral ar d) (isPlain ar d) q, and-right (isGeneral ar d) (isPlain ar d) q)
 
-pub answered : (ar : List ℕ) (d r : Diagram) → reduceAnswer ar d ≡ ok r → Answered ar d r
+pub answered : (ar : List ℕ) (d r : Diagram) → reduceAnswer ar d ≡ ok r → ReductionAnswered ar d r
 unfolding reduceAnswer
 answered ar d r e = go (ltb mostPaths (length (paths d))) refl (hasKinds ar d) refl (ltb mostRuns (runs ar d)) refl (ltb mostFormed (formed ar d)) refl e
   where
@@ -77,7 +77,7 @@ answered ar d r e = go (ltb mostPaths (length (paths d))) refl (hasKinds ar d) r
 
     go : (a : Bool) → ltb mostPaths (length (paths d)) ≡ a → (b : Bool) → hasKinds ar d ≡ b → (c : Bool) → ltb mostRuns (runs ar d) ≡ c
         → (x : Bool) → ltb mostFormed (formed ar d) ≡ x
-        → cond a (refused Paths) (cond b (refused Kinds) (cond c (refused Runs) (cond x (refused Combinations) (ok (reducedDiagram ar d))))) ≡ ok r → Answered ar d r
+        → cond a (refused Paths) (cond b (refused Kinds) (cond c (refused Runs) (cond x (refused Combinations) (ok (reducedDiagram ar d))))) ≡ ok r → ReductionAnswered ar d r
     go true p b q c u x v z = absurd (not-refused Paths z)
     go false p true q c u x v z = absurd (not-refused Kinds z)
     go false p false q true u x v z = absurd (not-refused Runs z)

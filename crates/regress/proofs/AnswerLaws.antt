@@ -40,7 +40,7 @@ use Rattle.row_steps.specs.RunLaws.{uncrowded-final, all-final}
 use Rattle.truths.specs.declared.Verdict.{Verdict}
 use Rattle.truths.specs.declared.Verdict.the-variants.{Passed, Refused as Faulty}
 use Rattle.truths.specs.TruthChecks.{Lent, Judged, afterVerdict}
-use Rattle.regress.specs.Regressing.{Regressable, Runnable, Roomy, Regresses, Listable, held, Answered}
+use Rattle.regress.specs.Regressing.{Regressable, Runnable, Roomy, Regresses, Listable, held, RegressAnswered}
 
 -- `list_result`
 pub list-writable : {s out : List ℕ} {count root : ℕ} → Listable s count root out → (n m : ℕ) → 2048 ≤ n → 2048 ≤ m → Writable s count root (replicate n 0) (replicate m 0) out
@@ -66,11 +66,11 @@ module _ {s : List ℕ} {root : ℕ} {out : List ℕ} {r : Listed} {marks′ out
   abbrev D : Diagram
   D = tree s root
 
-  pub list-done : {m : ℕ} → r ≡ Rows m → Answered (held D) (Done m) out out′
+  pub list-done : {m : ℕ} → r ≡ Rows m → RegressAnswered (held D) (Done m) out out′
   unfolding writeAnswer
   list-done {m} e = go (flag (leb (length (rows D)) mostRows))
     where
-      go : Flag (leb (length (rows D)) mostRows) → Answered (held D) (Done m) out out′
+      go : Flag (leb (length (rows D)) mostRows) → RegressAnswered (held D) (Done m) out out′
       go (isTrue q) =
           let k : Rows m ≡ Rows (length (rows D)) = rw q at (sym e ∙ p .answer) in
           let n : m ≡ length (rows D) = cc in
@@ -79,11 +79,11 @@ module _ {s : List ℕ} {root : ℕ} {out : List ℕ} {r : Listed} {marks′ out
           (record { answer = ap Done n; result = w ∙ ap (λ (i : ℕ). listing D ++ drop i out) (sym (length-listing D)) })
       go (isFalse q) = let k : Rows m ≡ TooMany = rw q at (sym e ∙ p .answer) in absurd (let z : _≡_ {A = ℕ} 0 1 = cc in omega arith)
 
-  pub list-many : r ≡ TooMany → Answered (held D) (Refused NoSpace) out out′
+  pub list-many : r ≡ TooMany → RegressAnswered (held D) (Refused NoSpace) out out′
   unfolding writeAnswer
   list-many e = go (flag (leb (length (rows D)) mostRows))
     where
-      go : Flag (leb (length (rows D)) mostRows) → Answered (held D) (Refused NoSpace) out out′
+      go : Flag (leb (length (rows D)) mostRows) → RegressAnswered (held D) (Refused NoSpace) out out′
       go (isTrue q) = let k : TooMany ≡ Rows (length (rows D)) = rw q at (sym e ∙ p .answer) in absurd (let z : _≡_ {A = ℕ} 0 1 = cc in omega arith)
       go (isFalse q) =
           let w : out′ ≡ out = p .words ∙ words-many D out q in
@@ -146,7 +146,7 @@ module _ {ar value truths spans out work : List ℕ} (c : Regressable ar value t
     unfolding regressed
     gives-refusal {w} {n} e = ap (λ (o : Outcome (Diagram × List Diagram)). andThen o (λ z. held (z .0))) (x .refusal w n e (all-final w))
 
-    pub checked-done : {root n : ℕ} → r ≡ Row root n → {q : Regressed} {out′ : List ℕ} → Answered (held (tree s root)) q out out′
+    pub checked-done : {root n : ℕ} → r ≡ Row root n → {q : Regressed} {out′ : List ℕ} → RegressAnswered (held (tree s root)) q out out′
         → (q ≡ regressedAs (regressed ar (truthsOf truths spans) (diagramOf value))) × (out′ ≡ writtenAs (regressed ar (truthsOf truths spans) (diagramOf value)) out)
     checked-done {root} {n} e {q} {out′} a = rw (gives-row e) (a .answer, a .result)
 

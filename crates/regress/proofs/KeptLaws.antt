@@ -9,6 +9,7 @@ use lib.Seq.{getD-set-same, getD-set-other}
 use Rattle.refusal.specs.declared.Refusal.{Refusal}
 use Rattle.refusal.specs.Outcome.{Outcome, ok, refused, andThen}
 use Rattle.basics.specs.Members.{clash}
+use Rattle.basics.specs.Prefix.{Prefix, mem-prefix}
 use Rattle.basics.specs.Tests.{Cmp, below, equal, above, cmp}
 use Rattle.label.specs.Limits.{predicateCount, predicateWeight}
 use Rattle.label.specs.Labels.{isLabel, predicateOf, unpacked, inOrder}
@@ -16,10 +17,8 @@ use Rattle.label.specs.LabelLaws.{label-fits}
 use Rattle.diagram.specs.Diagram.{Diagram, leaf, same}
 use Rattle.diagram.specs.Validity.{tree}
 use Rattle.diagram.specs.Sizes.{spaceRows}
-use Rattle.diagram.specs.DiagramLaws.{diagram-test}
 use Rattle.diagram.specs.RowLaws.{onto-mem}
 use Rattle.apply.specs.Formed.{add}
-use Rattle.apply.specs.Snoc.{Begins, mem-begins}
 use Rattle.store.specs.declared.Formed.{Formed}
 use Rattle.store.specs.Space.{diagramsOf, Formation}
 use Rattle.regression.specs.Calls.{Run, bind, form}
@@ -43,8 +42,8 @@ use Rattle.regress.proofs.RowsLaws.{leaf-told, ready-on}
 pub known-now : {A : Type 0} (m : Run A) (a : A) (rs qs : List Diagram) → m rs ≡ ok (a, qs) → Known m a qs
 known-now m a rs qs e = record { before = rs; after = qs; ran = e; there = λ x h. h }
 
-pub known-later : {A : Type 0} (m : Run A) (a : A) (rs qs : List Diagram) → Begins rs qs → Known m a rs → Known m a qs
-known-later m a rs qs g k = record { before = k .before; after = k .after; ran = k .ran; there = λ x h. mem-begins same diagram-test x rs qs g (k .there x h) }
+pub known-later : {A : Type 0} (m : Run A) (a : A) (rs qs : List Diagram) → Prefix rs qs → Known m a rs → Known m a qs
+known-later m a rs qs g k = record { before = k .before; after = k .after; ran = k .ran; there = λ x h. mem-prefix same x g (k .there x h) }
 
 -- run again it gives the same answer and adds nothing
 pub known-again : {A : Type 0} (m : Run A) (a : A) (rs : List Diagram) → Steady m → Known m a rs → length rs ≤ spaceRows → m rs ≡ ok (a, rs)

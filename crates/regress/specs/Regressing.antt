@@ -64,6 +64,6 @@ abbrev pub held : Diagram → Outcome Diagram
 held d = cond (ltb mostRows (length (rows d))) (refused Space) (ok d)
 
 -- the answer o, and the result buffer that was `before` and is `after`
-pub record Answered (o : Outcome Diagram) (r : Regressed) (before after : List ℕ) : Type 0 where
+pub record RegressAnswered (o : Outcome Diagram) (r : Regressed) (before after : List ℕ) : Type 0 where
   pub answer : r ≡ regressedAs o
   pub result : after ≡ writtenAs o before

@@ -24,7 +24,7 @@ ghost use Rattle.label.specs.Renamings.{mapOf};
 ghost use Rattle.label.specs.Labels.{termsOf, unpacked};
 ghost use Rattle.regression.specs.Regression.{argument, replacement, truthAt, regression, regressed};
 ghost use Rattle.regress.specs.Tasks.{taskAt, Taskable, taskRun, Tasked, replacedBy, Mapping, toldAs, usedPlaces, Usable, Arguable, Argued};
-ghost use Rattle.regress.specs.Regressing.{Regressable, Runnable, Roomy, Regresses, Listable, held, Answered};
+ghost use Rattle.regress.specs.Regressing.{Regressable, Runnable, Roomy, Regresses, Listable, held, RegressAnswered};
 ghost use Rattle.regress.specs.Keeping.{formedTruth, Asking, slots, Keeps, KeptRan};
 ghost use Rattle.truths.specs.TruthChecks.{Lent};
 
@@ -414,7 +414,7 @@ fn regress_rows(
 // Writes the listing of the row `root`, unless its rows are too many.
 fn list_result(space: &[u64], count: usize, root: usize, out: &mut [u64]) -> Regressed
     requires { ⌜ Listable (now space) count root (now out) ⌝ }
-    ensures { λ r. ⌜ Answered (held (tree (now (space .entry)) root)) r (now (out .entry)) (now (out .exit)) ⌝ }
+    ensures { λ r. ⌜ RegressAnswered (held (tree (now (space .entry)) root)) r (now (out .entry)) (now (out .exit)) ⌝ }
 {
     let mut marks = [0u16; diagram::SPACE_ROWS];
     let mut order = [0u16; diagram::SPACE_ROWS];

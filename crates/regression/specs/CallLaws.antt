@@ -12,20 +12,19 @@ use Rattle.refusal.specs.declared.Refusal.the-variants.{Pairs, Value, Space}
 use Rattle.refusal.specs.Outcome.{Accepted, Outcome, ok, refused, andThen}
 use Rattle.refusal.specs.OutcomeLaws.{accepted-ok, accepted-then}
 use Rattle.basics.specs.Members.{mem, Within}
+use Rattle.basics.specs.Prefix.{Prefix, prefix-refl, prefix-trans, mem-prefix}
 use Rattle.diagram.specs.Sizes.{spaceRows, mostPairs}
 use Rattle.diagram.specs.Diagram.{Diagram, same}
-use Rattle.diagram.specs.DiagramLaws.{diagram-test, onto-old}
+use Rattle.diagram.specs.DiagramLaws.{onto-old}
 use Rattle.diagram.specs.Rows.{onto}
 use Rattle.diagram.specs.RowLists.{Kept}
-use Rattle.diagram.specs.RowLaws.{onto-mem, onto-kept, kept-children, kept-nodup}
+use Rattle.diagram.specs.RowLaws.{onto-mem, onto-kept, kept-children, kept-nodup, onto-keeps}
 use Rattle.apply.specs.declared.Operation.{Operation}
 use Rattle.apply.specs.Apply.{apply}
 use Rattle.apply.specs.Pairs.{pairs, pairCount, overflows}
 use Rattle.apply.specs.Combination.{operate}
 use Rattle.apply.specs.Visit.{visit}
 use Rattle.apply.specs.Formed.{formed, ClosedRows}
-use Rattle.apply.specs.Snoc.{Begins, begins-refl, begins-trans, mem-begins}
-use Rattle.apply.specs.RowLaws.{onto-begins}
 use Rattle.apply.specs.FormedLaws.{formed-visit, formed-count}
 use Rattle.regression.specs.Calls.{Run, pure, bind, form, combine}
 
@@ -148,14 +147,14 @@ combine-forms op a b rs k = (formed-visit op rs a b (kept-closed rs k), formed-c
 
 -- a step keeps the rows that are there, in the room of the space; and where its rows are there already it gives the same answer and adds nothing
 pub record Steady {A : Type 0} (m : Run A) : Type 0 where
-  pub grows : (rs : List Diagram) (a : A) (qs : List Diagram) → m rs ≡ ok (a, qs) → Begins rs qs
+  pub grows : (rs : List Diagram) (a : A) (qs : List Diagram) → m rs ≡ ok (a, qs) → Prefix rs qs
   pub kept : (rs : List Diagram) (a : A) (qs : List Diagram) → m rs ≡ ok (a, qs) → Kept rs → Kept qs
   pub room : (rs : List Diagram) (a : A) (qs : List Diagram) → m rs ≡ ok (a, qs) → length rs ≤ spaceRows → length qs ≤ spaceRows
   pub again : (rs : List Diagram) (a : A) (qs us : List Diagram) → m rs ≡ ok (a, qs) → Within same qs us → length us ≤ spaceRows → m us ≡ ok (a, us)
 
 pub steady-pure : {A : Type 0} (a : A) → Steady (pure a)
 steady-pure {A} a = record {
-  grows = λ rs b qs e. subst (Begins rs) (same-rows a b rs qs e) (begins-refl rs);
+  grows = λ rs b qs e. subst (Prefix rs) (same-rows a b rs qs e) (prefix-refl rs);
   kept = λ rs b qs e k. subst Kept (same-rows a b rs qs e) k;
   room = λ rs b qs e l. subst (λ (x : List Diagram). length x ≤ spaceRows) (same-rows a b rs qs e) l;
   again = λ rs b qs us e w l. ap (λ (x : A). ok (x, us)) (same-answer a b rs qs e);
@@ -164,10 +163,10 @@ steady-pure {A} a = record {
 pub steady-bind : {A B : Type 0} (m : Run A) (f : A → Run B) → Steady m → ((a : A) → Steady (f a)) → Steady (bind m f)
 steady-bind {A} {B} m f s t = record { grows = grows; kept = kept; room = room; again = again }
   where
-    grows : (rs : List Diagram) (b : B) (us : List Diagram) → bind m f rs ≡ ok (b, us) → Begins rs us
+    grows : (rs : List Diagram) (b : B) (us : List Diagram) → bind m f rs ≡ ok (b, us) → Prefix rs us
     grows rs b us h =
         let x = both-bind m f rs b us h in
-        begins-trans rs (x .between) us (s .grows rs (x .first) (x .between) (x .one)) (t (x .first) .grows (x .between) b us (x .two))
+        prefix-trans (s .grows rs (x .first) (x .between) (x .one)) (t (x .first) .grows (x .between) b us (x .two))
 
     kept : (rs : List Diagram) (b : B) (us : List Diagram) → bind m f rs ≡ ok (b, us) → Kept rs → Kept us
     kept rs b us h k =
@@ -183,12 +182,12 @@ steady-bind {A} {B} m f s t = record { grows = grows; kept = kept; room = room; 
     again rs b us ws h w l =
         let x = both-bind m f rs b us h in
         let g = t (x .first) .grows (x .between) b us (x .two) in
-        let e = s .again rs (x .first) (x .between) ws (x .one) (λ d p. w d (mem-begins same diagram-test d (x .between) us g p)) l in
+        let e = s .again rs (x .first) (x .between) ws (x .one) (λ d p. w d (mem-prefix same d g p)) l in
         bind-both m f ws (x .first) ws e ∙ t (x .first) .again (x .between) b us ws (x .two) w l
 
 pub steady-form : (d : Diagram) → Steady (form d)
 steady-form d = record {
-  grows = λ rs x qs e. rw (form-forms d rs x qs e .rows-are) (onto-begins d rs);
+  grows = λ rs x qs e. rw (form-forms d rs x qs e .rows-are) (onto-keeps d rs);
   kept = λ rs x qs e k. rw (form-forms d rs x qs e .rows-are) (onto-kept d rs k);
   room = λ rs x qs e l. rw (form-forms d rs x qs e .rows-are) (form-forms d rs x qs e .room);
   again = λ rs x qs us e w l.
@@ -198,7 +197,7 @@ steady-form d = record {
 
 pub steady-combine : (op : Operation) (a b : Diagram) → Steady (combine op a b)
 steady-combine op a b = record {
-  grows = λ rs x qs e. rw (combine-combines op a b rs x qs e .forms .rows-are) (onto-begins (apply (operate op) a b) rs);
+  grows = λ rs x qs e. rw (combine-combines op a b rs x qs e .forms .rows-are) (onto-keeps (apply (operate op) a b) rs);
   kept = λ rs x qs e k. rw (combine-combines op a b rs x qs e .forms .rows-are) (onto-kept (apply (operate op) a b) rs k);
   room = λ rs x qs e l. rw (combine-combines op a b rs x qs e .forms .rows-are) (combine-combines op a b rs x qs e .forms .room);
   again = λ rs x qs us e w l.

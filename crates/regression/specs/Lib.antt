@@ -19,8 +19,8 @@
 --   stepped, rebuilt, replaced, truthGiven, truthDiagram, regressedDiagram == the same diagrams where nothing is refused, without the space
 --   asked == what a test asks of a choice of true or false for all labels
 --
--- Definitions: the next state
---   inner, factAfter, next, meanings == p(o ..) is true next exactly if its truth diagram gives 1 for o .. today; without one it stays
+-- Definitions: what a regression says of the next state
+--   meanings == truth diagrams over what their labels say
 --   Tells == what an accepted regression gives: a good diagram whose leaves are the old one's in the next state, with no new variable or parameter
 --
 -- Definitions: what diagrams must be
@@ -55,7 +55,7 @@ pub mod Regression
 pub mod RegressCall
 pub mod Result
 pub mod Parameters
-pub mod Next
+pub mod Tells
 -- laws
 pub mod CallLaws
 pub mod StepLaws
@@ -63,6 +63,6 @@ pub mod RegressionLaws
 pub mod MovedLaws
 pub mod ResultLaws
 pub mod FreeingLaws
-pub mod NextLaws
+pub mod TellsLaws
 pub mod RegressCallLaws
 pub mod FreeCallLaws

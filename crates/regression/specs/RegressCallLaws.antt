@@ -27,8 +27,8 @@ use Rattle.regression.specs.declared.Regressed.the-variants.{Refused}
 use Rattle.regression.specs.Regression.{Truths, regressed}
 use Rattle.regression.specs.Result.{AtMost}
 use Rattle.regression.specs.Parameters.{GoodTruth, GoodTruths}
-use Rattle.regression.specs.Next.{Tells}
-use Rattle.regression.specs.NextLaws.{regressed-tells}
+use Rattle.regression.specs.Tells.{Tells}
+use Rattle.regression.specs.TellsLaws.{regressed-tells}
 use Rattle.regression.specs.RegressCall.{truthCount, truthWords, truthsOf, areListings, leafAbove, anyOccurs}
 use Rattle.regression.specs.RegressCall.{unboundVariable, checkTruth, checkTruths, regressOutcome, regressAnswer, regressResult}
 

@@ -14,6 +14,7 @@ use Rattle.diagram.specs.Diagram.{Tree, Diagram}
 use Rattle.diagram.specs.Listing.{Fine}
 use Rattle.apply.specs.GoodLaws.{fine-every}
 use Rattle.state.specs.State.{Atomic, meaning, atomOf, State, Good, truth, holds, value, low, fixed}
+use Rattle.state.specs.Next.{inner, factAfter, next}
 use Rattle.state.specs.Max.{Tuple, none as no-objects, more}
 use Rattle.state.specs.Highest.{Bound}
 use Rattle.state.specs.HighestLaws.{start-fits, bound-tuple}
@@ -21,7 +22,6 @@ use Rattle.state.specs.ValueLaws.{low-lt, low-ge, by-low}
 use Rattle.minimum.specs.NumberLaws.{number-is, number-one}
 use Rattle.minimum.specs.NextLaws.{number-next}
 use Rattle.regression.specs.ResultLaws.{value-meaning, eval-agree, label-predicate}
-use Rattle.regression.specs.Next.{inner, factAfter, next}
 use Rattle.mdp.specs.Model.{Variant, Model, GoodVariant, GoodModel}
 use Rattle.mdp.specs.Bellman.{stateAfter, rewardIn}
 use Rattle.mdp.specs.BackupLaws.{bound-none}

@@ -19,12 +19,12 @@ use Rattle.diagram.specs.Listings.{is-listing-good}
 use Rattle.state.specs.declared.Valued.{Valued}
 use Rattle.state.specs.declared.Valued.the-variants.{Value, Refused as Unvalued}
 use Rattle.state.specs.State.{State, atomOf, meaning, holds, value}
+use Rattle.state.specs.Next.{next}
 use Rattle.state.specs.Lent.{factWords, factCount, stateOf, isState, mostFacts}
 use Rattle.minimum.specs.NumberLaws.{number-is, number-attained}
 use Rattle.elimination.specs.Answer.{isTooLarge}
 use Rattle.elimination.specs.AnswerLaws.{lent-good}
 use Rattle.fact_index.specs.Index.{indexedCount, Indexed}
-use Rattle.regression.specs.Next.{next}
 use Rattle.mdp.specs.BackupLaws.{bound-none}
 use Rattle.mdp.specs.Bellman.{stateAfter}
 use Rattle.replay.specs.Replay.{factsOf}

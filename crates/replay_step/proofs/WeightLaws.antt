@@ -27,9 +27,9 @@ use Rattle.state.specs.ValueCall.{mostValuations, valuations}
 use Rattle.minimum.specs.Number.{number}
 use Rattle.minimum.specs.NumberLaws.{number-equal}
 use Rattle.minimum.specs.ApartLaws.{number-fixed}
+use Rattle.minimum.specs.OccurLaws.{terms-occur}
 use Rattle.elimination.specs.Elimination.{mostEntries, allEntries}
 use Rattle.elimination.specs.Answer.{isTooLarge}
-use Rattle.regression.specs.NextLaws.{terms-occur}
 use Rattle.mdp.specs.Model.{Variant, GoodVariant}
 use Rattle.mdp.specs.Bellman.{weightIn}
 use Rattle.valuing.specs.Walks.{boundNumber, boundAnswer, climbed, isFew}

@@ -12,6 +12,7 @@ use Rattle.refusal.specs.declared.Refusal.the-variants.{Space as NoSpace, Pairs
 use Rattle.refusal.specs.Numbers.{numberOf}
 use Rattle.basics.specs.Tests.{Cmp, below, equal, above, cmp}
 use Rattle.basics.specs.Members.{mem}
+use Rattle.basics.specs.Prefix.{Prefix, prefix-trans}
 use Rattle.label.specs.Limits.{leafMark}
 use Rattle.label.specs.declared.Label.{Label}
 use Rattle.label.specs.declared.Test.{Test}
@@ -22,12 +23,10 @@ use Rattle.diagram.specs.DiagramLaws.{onto-old}
 use Rattle.diagram.specs.Rows.{onto}
 use Rattle.diagram.specs.Words.{labelAt, highAt, lowAt}
 use Rattle.diagram.specs.Validity.{tree}
-use Rattle.diagram.specs.RowLaws.{onto-mem, kept-index-is}
+use Rattle.diagram.specs.RowLaws.{onto-mem, kept-index-is, onto-keeps}
 use Rattle.apply.specs.declared.Operation.the-variants.{Sum, Product}
-use Rattle.apply.specs.Snoc.{Begins, begins-trans}
 use Rattle.apply.specs.Formed.{add}
 use Rattle.apply.specs.FormedLaws.{add-begins}
-use Rattle.apply.specs.RowLaws.{onto-begins}
 use Rattle.store.specs.declared.Formed.{Formed}
 use Rattle.store.specs.declared.Formed.the-variants.{Row as FormedRow, Full}
 use Rattle.store.specs.Space.{diagramsOf, Holds, standsFor, Formable, a-branch, Formation}
@@ -58,7 +57,7 @@ pub grew : {s₀ : List ℕ} {count : ℕ} {d : Diagram} {i n : ℕ} {s heads li
     → Formation d (onto d (diagramsOf s₀ count)) (FormedRow i n) s heads links → Grew s₀ count d i n s
 grew {s₀} {count} {d} f =
     let t = formation-tree f (onto-mem d (diagramsOf s₀ count)) in
-    record { there = t .0; is = t .1; rows = formation-row f .3; old = formation-old f s₀ count (onto-begins d (diagramsOf s₀ count)) }
+    record { there = t .0; is = t .1; rows = formation-row f .3; old = formation-old f s₀ count (onto-keeps d (diagramsOf s₀ count)) }
 
 -- a branch whose children were put onto the rows, one after the other
 module _ {s₀ heads₀ links₀ : List ℕ} {count : ℕ} (h : Holds s₀ heads₀ links₀ count) (l : ℕ) (below-mark : l < leafMark) (t f : Diagram)
@@ -75,8 +74,8 @@ module _ {s₀ heads₀ links₀ : List ℕ} {count : ℕ} (h : Holds s₀ heads
   rows-branch : add (branch l t f) (diagramsOf s₂ m) ≡ onto (branch l t f) (diagramsOf s₀ count)
   rows-branch = ap (add (branch l t f)) rows-two ∙ add-branch l t f (diagramsOf s₀ count) (holds-closed h)
 
-  pub kid-begins : Begins (diagramsOf s₂ m) (onto (branch l t f) (diagramsOf s₀ count))
-  kid-begins = subst (Begins (diagramsOf s₂ m)) rows-branch (add-begins (branch l t f) (diagramsOf s₂ m))
+  pub kid-begins : Prefix (diagramsOf s₂ m) (onto (branch l t f) (diagramsOf s₀ count))
+  kid-begins = subst (Prefix (diagramsOf s₂ m)) rows-branch (add-begins (branch l t f) (diagramsOf s₂ m))
 
   pub kid-formed : {r : Formed} {s heads links : List ℕ}
       → Formation (standsFor s₂ (record { label = l; high = i; low = j })) (add (standsFor s₂ (record { label = l; high = i; low = j })) (diagramsOf s₂ m)) r s heads links
@@ -87,15 +86,15 @@ module _ {s₀ heads₀ links₀ : List ℕ} {count : ℕ} (h : Holds s₀ heads
 
 -- no room for a child: none for the branch
 module _ {s₀ heads₀ links₀ : List ℕ} {count : ℕ} (h : Holds s₀ heads₀ links₀ count) (l : ℕ) (t f : Diagram) where
-  begins-all : Begins (onto f (onto t (diagramsOf s₀ count))) (onto (branch l t f) (diagramsOf s₀ count))
+  begins-all : Prefix (onto f (onto t (diagramsOf s₀ count))) (onto (branch l t f) (diagramsOf s₀ count))
   begins-all =
-      subst (Begins (onto f (onto t (diagramsOf s₀ count)))) (add-branch l t f (diagramsOf s₀ count) (holds-closed h))
+      subst (Prefix (onto f (onto t (diagramsOf s₀ count)))) (add-branch l t f (diagramsOf s₀ count) (holds-closed h))
       (add-begins (branch l t f) (onto f (onto t (diagramsOf s₀ count))))
 
   pub high-full : {s heads links : List ℕ} → Formation t (onto t (diagramsOf s₀ count)) Full s heads links
       → Formation (branch l t f) (onto (branch l t f) (diagramsOf s₀ count)) Full s heads links
   high-full z = full-more (branch l t f) (onto (branch l t f) (diagramsOf s₀ count)) z
-      (begins-trans (onto t (diagramsOf s₀ count)) (onto f (onto t (diagramsOf s₀ count))) _ (onto-begins f (onto t (diagramsOf s₀ count))) begins-all)
+      (prefix-trans (onto-keeps f (onto t (diagramsOf s₀ count))) begins-all)
 
   pub low-full : {i n : ℕ} {s₁ s heads links : List ℕ} → Grew s₀ count t i n s₁ → Formation f (onto f (diagramsOf s₁ n)) Full s heads links
       → Formation (branch l t f) (onto (branch l t f) (diagramsOf s₀ count)) Full s heads links
@@ -199,7 +198,7 @@ row-small f m = omega (arith, formation-tree f m .0, f .holds .table .within)
 
 -- the note of a row that was formed, where n₂ rows and their notes were there before
 noting : {d : Diagram} {rs : List Diagram} {j n : ℕ} {s heads links : List ℕ} {s₂ memo₂ : List ℕ} {n₂ i : ℕ} → Formation d rs (FormedRow j n) s heads links → mem same d rs ≡ true
-    → Begins (diagramsOf s₂ n₂) rs → Noted s₂ memo₂ n₂ → i < n₂ → i < spaceRows → d ≡ exchanged (tree s₂ i) → Noted s (set memo₂ i (j + 1)) n
+    → Prefix (diagramsOf s₂ n₂) rs → Noted s₂ memo₂ n₂ → i < n₂ → i < spaceRows → d ≡ exchanged (tree s₂ i) → Noted s (set memo₂ i (j + 1)) n
 noting {d} {rs} {j} {n} {s} {heads} {links} {s₂} {memo₂} {n₂} {i} f m b q a c e =
     let o = formation-old f s₂ n₂ b in
     let t = formation-tree f m in
@@ -251,7 +250,7 @@ module _ {s heads links memo : List ℕ} {count i : ℕ} (x : Exchangeable s hea
         noted = λ k c z.
             let w : n ≡ c = cc in
             subst (Noted s′ (set memo i (j + 1))) w (noting (row-known leaf-formation e) (onto-mem (exchanged (tree s i)) (diagramsOf s count))
-            (onto-begins (exchanged (tree s i)) (diagramsOf s count)) (x .noted) (x .row) small-row refl);
+            (onto-keeps (exchanged (tree s i)) (diagramsOf s count)) (x .noted) (x .row) small-row refl);
       }
 
       pub exchange-leaf-small : j + 1 < 65536
@@ -349,7 +348,7 @@ module _ {s heads links memo : List ℕ} {count i : ℕ} (x : Exchangeable s hea
                   noted = λ k c z.
                       let w : n ≡ c = cc in
                       subst (Noted s′ (set memo₂ i (j + 1))) w (noting (row-known whole e) (onto-mem (exchanged (tree s i)) (diagramsOf s count))
-                      (subst (Begins (diagramsOf s₂ n₂)) (ap (λ (d : Diagram). onto d (diagramsOf s count)) branch-is)
+                      (subst (Prefix (diagramsOf s₂ n₂)) (ap (λ (d : Diagram). onto d (diagramsOf s count)) branch-is)
                       (kid-begins (x .holds) (getD s (i * 3) 0) label-less _ _ g₁ g₂))
                       (x₂ .noted i₂ n₂ e₂) (stays i (x .row) .0) small-row (ap exchanged (sym (stays i (x .row) .1))));
                 }

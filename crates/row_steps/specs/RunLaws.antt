@@ -22,13 +22,12 @@ use Rattle.diagram.specs.Words.{labelAt, highAt, lowAt}
 use Rattle.diagram.specs.Listing.{index}
 use Rattle.diagram.specs.Validity.{tree}
 use Rattle.diagram.specs.RowLists.{rowTree, Encoded, isPart}
-use Rattle.diagram.specs.RowLaws.{onto-mem, row-mem, onto-from, part-leaf, part-branch, PartOf, it-is, of-high, of-low}
+use Rattle.diagram.specs.RowLaws.{onto-mem, row-mem, onto-from, part-leaf, part-branch, PartOf, it-is, of-high, of-low, onto-keeps}
 use Rattle.diagram.specs.Shown.{Shown}
 use Rattle.diagram.specs.WrittenRows.{written-shown}
 use Rattle.plan.specs.Walk.{Leads}
 use Rattle.plan.specs.Plan.{Clean}
 use Rattle.plan.specs.PlanLaws.{index-empty}
-use Rattle.apply.specs.RowLaws.{onto-begins}
 use Rattle.apply.specs.Formed.{add}
 use Rattle.apply.specs.FormedLaws.{add-leaf}
 use Rattle.store.specs.declared.Formed.{Formed}
@@ -152,7 +151,7 @@ module _ (s₀ : List ℕ) (count : ℕ) (d : Diagram) {s heads links : List ℕ
   formed-gave {i} {n} f =
       let r = formation-row f in
       let t = formation-tree f (onto-mem d (diagramsOf s₀ count)) in
-      let o = formation-old f s₀ count (onto-begins d (diagramsOf s₀ count)) in
+      let o = formation-old f s₀ count (onto-keeps d (diagramsOf s₀ count)) in
       record {
         there = t .0;
         more = below count o;

@@ -16,7 +16,7 @@ use Rattle.reduction.specs.declared.Reduced.{Reduced}
 use Rattle.reduction.specs.declared.Reduced.the-variants.{Done, Refused}
 use Rattle.reduction.specs.Reduction.{reduceAnswer, answerOf, bufferOf}
 use Rattle.reduction.specs.ReductionLaws.{answered, reduced-listed}
-use Rattle.reduce.specs.Winning.{Reducible, Answered}
+use Rattle.reduce.specs.Winning.{Reducible, ReduceCallAnswered}
 use Rattle.mdp.specs.Runs.{heldWith, call}
 use Rattle.answers.specs.declared.Answer.the-variants as A
 use Rattle.text.specs.declared.Kind.the-variants as K
@@ -58,7 +58,7 @@ module _ {ar : List ℕ} {h : Held} {value work : List ℕ} (t : ReplaceTask ar 
   pub reduce-able : (n : ℕ) → resultWords ≤ n → Reducible ar (take (h .rows * 3) value) (replicate n 0) work
   reduce-able n k = record { listing = t .listing; out-room = omega (arith, length-replicate {A = ℕ} n 0); work-room = t .work-room }
 
-  module _ {q : Reduced} {out out′ : List ℕ} (a : Answered ar (take (h .rows * 3) value) out q out′) where
+  module _ {q : Reduced} {out out′ : List ℕ} (a : ReduceCallAnswered ar (take (h .rows * 3) value) out q out′) where
     pub reduce-wrote : {n : ℕ} → q ≡ Done n → Wrote ar (reduceAnswer ar W) (Rows n) out out′
     reduce-wrote e = record {
       answer = step-as (reduceAnswer ar W) (sym e ∙ a .answer);

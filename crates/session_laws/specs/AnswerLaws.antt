@@ -13,7 +13,7 @@ use Rattle.answers.specs.declared.Answer.the-variants as A
 use Rattle.session.specs.Place.{ruleOf}
 use Rattle.session.specs.Session.{Session}
 use Rattle.session.specs.Replies.{Reply, refusal, allowed, wordsOf, reply}
-use Rattle.session_laws.specs.LineAnswers.{Answered, quiet, valued, backed, cutting, reducing, showing, printing, moving, counting, replaying, OneAnswer, blank, refusing, accepted}
+use Rattle.session_laws.specs.LineAnswers.{LineAnswered, quiet, valued, backed, cutting, reducing, showing, printing, moving, counting, replaying, OneAnswer, blank, refusing, accepted}
 use Rattle.session_laws.specs.CaseLaws.{Cases, done-by, reply-by}
 
 -- where a line of the kind k with the words es may stand, the reply is y
@@ -21,8 +21,8 @@ abbrev InPlace : Session → ℕ → List Event → Kind → Reply → Type 0
 InPlace σ number es k y = (s : List ℕ) → es ≡ wordsOf k s → allowed σ (ruleOf k (σ .part)) ≡ ok tt → OneAnswer σ number s k y
 
 module _ (σ : Session) (number : ℕ) (es : List Event) where
-  standing : (k : Kind) (y : Reply) → Answered σ es k y → InPlace σ number es k y
-  standing k y h s w a = accepted a (subst (λ (us : List Event). Answered σ us k y) w h)
+  standing : (k : Kind) (y : Reply) → LineAnswered σ es k y → InPlace σ number es k y
+  standing k y h s w a = accepted a (subst (λ (us : List Event). LineAnswered σ us k y) w h)
 
   cases : Cases σ number es (InPlace σ number es)
   cases = record {
@@ -57,7 +57,7 @@ one-answer σ number s =
     (done-by σ number es (InPlace σ number es) (cases σ number es) (lineKind s) s refl)
 
 -- an accepted line is answered no refusal
-accepted-none : (σ : Session) (es : List Event) (k : Kind) (y : Reply) (r : Refusal) (n : ℕ) → Answered σ es k y → y .answer ≡ A.Refused r n → ⊥
+accepted-none : (σ : Session) (es : List Event) (k : Kind) (y : Reply) (r : Refusal) (n : ℕ) → LineAnswered σ es k y → y .answer ≡ A.Refused r n → ⊥
 accepted-none σ es k y r n (quiet p q) e = let z : _≡_ {A = ℕ} 0 1 = cc in omega arith
 accepted-none σ es k y r n (valued v p h t q) e = let z : _≡_ {A = ℕ} 0 1 = cc in omega arith
 accepted-none σ es k y r n (backed h p i t q) e = let z : _≡_ {A = ℕ} 0 1 = cc in omega arith

@@ -4,9 +4,9 @@
 -- Definitions: a line
 --   valueLine == the line (value) in bytes
 --   Makes, MovesTo == the session behind an accepted line that prints nothing, kind by kind: a line of the model, (start), (objects), (is), (true)
---   didRead, Answered == the state in hand behind a (did ..); the reply to an accepted line is of its kind; (value), (show), (text), (best) and (count n) leave the
+--   didRead, LineAnswered == the state in hand behind a (did ..); the reply to an accepted line is of its kind; (value), (show), (text), (best) and (count n) leave the
 --       session, (did ..) moves the state in hand alone
---   OneAnswer == a line is blank, prints nothing and leaves the session; or is refused under its own number, the session left; or stands where it may and is Answered
+--   OneAnswer == a line is blank, prints nothing and leaves the session; or is refused under its own number, the session left; or stands where it may and is LineAnswered
 --   Shows, Prints == the reply to an accepted (show); to an accepted (text): the value's form and a line feed, at most 4,086 bytes and one, the session left
 --   PrintsMove == the reply to an accepted (best): a move with an object for each parameter; it prints the action's name and these objects, the session left
 --   entryLines, PrintsCounts == the lines of entries; the reply to an accepted (count n): a line for each entry, at most 1,023, of machine words, the session left

@@ -78,30 +78,30 @@ didRead σ es = didLine (σ .model) (σ .names) (σ .live) (keyIn (wordAt es 0))
 
 -- the reply y to an accepted line of the kind k with the words es; (value), (show), (text), (best) and (count n) leave the session as it was, (did ..) moves the state
 -- in hand alone
-pub data Answered (σ : Session) (es : List Event) (k : Kind) (y : Reply) : Type 0 where
-  quiet : MovesTo σ es k (y .session) → y .answer ≡ A.Nothing → Answered σ es k y
+pub data LineAnswered (σ : Session) (es : List Event) (k : Kind) (y : Reply) : Type 0 where
+  quiet : MovesTo σ es k (y .session) → y .answer ≡ A.Nothing → LineAnswered σ es k y
   valued : (v : ℕ) → k ≡ K.Value → valueRead (σ .model .arities) (σ .live) (σ .held .diagram) ≡ ok v
-      → y .session ≡ σ → y .answer ≡ A.Value v (σ .held .steps) (scale (σ .model) ^ σ .held .steps) → Answered σ es k y
-  backed : (h : Held) → k ≡ K.Backup → call (σ .model) aBackup (σ .held) ≡ ok h → y .session ≡ withHeld σ (σ .part) h → y .answer ≡ backupIs h → Answered σ es k y
+      → y .session ≡ σ → y .answer ≡ A.Value v (σ .held .steps) (scale (σ .model) ^ σ .held .steps) → LineAnswered σ es k y
+  backed : (h : Held) → k ≡ K.Backup → call (σ .model) aBackup (σ .held) ≡ ok h → y .session ≡ withHeld σ (σ .part) h → y .answer ≡ backupIs h → LineAnswered σ es k y
   cutting : (h : Held) (row : ℕ) (edge : Edge) (left : ℕ) → k ≡ K.Cut → call (σ .model) aCut (σ .held) ≡ ok h
       → diagramAnswer (σ .model .arities) (σ .held .diagram) ≡ C.Done row edge left
-      → y .session ≡ withHeld σ (σ .part) h → y .answer ≡ A.Cut row edge left → Answered σ es k y
-  reducing : (h : Held) → k ≡ K.Reduce → call (σ .model) aReduce (σ .held) ≡ ok h → y .session ≡ withHeld σ (σ .part) h → y .answer ≡ reduceIs h → Answered σ es k y
-  showing : k ≡ K.Show → y .session ≡ σ → y .answer ≡ A.Show (length (rows (σ .held .diagram))) → Answered σ es k y
-  printing : (n : ℕ) → k ≡ K.Text → formRead (σ .model .arities) (σ .names) (σ .held .diagram) ≡ ok n → y .session ≡ σ → y .answer ≡ A.Text n → Answered σ es k y
+      → y .session ≡ withHeld σ (σ .part) h → y .answer ≡ A.Cut row edge left → LineAnswered σ es k y
+  reducing : (h : Held) → k ≡ K.Reduce → call (σ .model) aReduce (σ .held) ≡ ok h → y .session ≡ withHeld σ (σ .part) h → y .answer ≡ reduceIs h → LineAnswered σ es k y
+  showing : k ≡ K.Show → y .session ≡ σ → y .answer ≡ A.Show (length (rows (σ .held .diagram))) → LineAnswered σ es k y
+  printing : (n : ℕ) → k ≡ K.Text → formRead (σ .model .arities) (σ .names) (σ .held .diagram) ≡ ok n → y .session ≡ σ → y .answer ≡ A.Text n → LineAnswered σ es k y
   moving : (x : Move) → k ≡ K.Best → bestRead (σ .model) (σ .live) (σ .held .diagram) ≡ ok x
-      → y .session ≡ σ → y .answer ≡ bestIs (σ .names) x → Answered σ es k y
+      → y .session ≡ σ → y .answer ≡ bestIs (σ .names) x → LineAnswered σ es k y
   counting : (l : List Entry) → k ≡ K.Count → countRead (σ .model) (σ .names) (σ .live) (σ .held .diagram) (numberIn (wordAt es 0)) ≡ ok l
-      → y .session ≡ σ → y .answer ≡ A.Count (numberIn (wordAt es 0)) (length l) → Answered σ es k y
+      → y .session ≡ σ → y .answer ≡ A.Count (numberIn (wordAt es 0)) (length l) → LineAnswered σ es k y
   replaying : (l : Live) → k ≡ K.Did → didRead σ es ≡ ok l
-      → y .session ≡ withLive σ l → y .answer ≡ A.Did (l .count) (l .total) → Answered σ es k y
+      → y .session ≡ withLive σ l → y .answer ≡ A.Did (l .count) (l .total) → LineAnswered σ es k y
 
 -- the reply y to line `number`, which has the bytes s and is of the kind k: it is blank, prints nothing and leaves the session as it was; or it is
 -- refused under its own number and leaves the session as it was (which refusal: session Replies, and line_trees TreeReplies); or it stands where it may and is answered as its kind is
 pub data OneAnswer (σ : Session) (number : ℕ) (s : List ℕ) (k : Kind) (y : Reply) : Type 0 where
   blank : s ≡ [] → y ≡ silent σ → OneAnswer σ number s k y
   refusing : (r : Refusal) → y ≡ refusal σ number r → OneAnswer σ number s k y
-  accepted : allowed σ (ruleOf k (σ .part)) ≡ ok tt → Answered σ (wordsOf k s) k y → OneAnswer σ number s k y
+  accepted : allowed σ (ruleOf k (σ .part)) ≡ ok tt → LineAnswered σ (wordsOf k s) k y → OneAnswer σ number s k y
 
 -- the answer of (value), in the run: Mk of the state in hand, k and S^k
 pub record IsValue (σ : Session) (v k w : ℕ) : Type 0 where

@@ -32,7 +32,7 @@ use Rattle.session.specs.Replies.{Reply, allowed, wordsOf, reply}
 use Rattle.session.specs.Texts.{valueForm, tableOf, replyBytes}
 use Rattle.session.specs.Good.{GoodSession}
 use Rattle.session_laws.specs.PlaceLaws.{in-run, best-placed, did-placed, placed-objects}
-use Rattle.session_laws.specs.LineAnswers.{Answered, quiet, valued, backed, cutting, reducing, showing, printing, moving, counting, replaying}
+use Rattle.session_laws.specs.LineAnswers.{LineAnswered, quiet, valued, backed, cutting, reducing, showing, printing, moving, counting, replaying}
 use Rattle.session_laws.specs.LineAnswers.{OneAnswer, blank, refusing, accepted, didRead, Shows, Prints, PrintsMove, PrintsCounts, PrintsReplay}
 use Rattle.session_laws.specs.MoveLaws.{best-bound, action-few, tuple-length, four-taken}
 use Rattle.session_laws.specs.EntryLaws.{count-read, entry-count, entries-few, entries-words, entries-lines}
@@ -44,7 +44,7 @@ use Rattle.session_laws.specs.AnswerLaws.{one-answer}
 pub reply-shows : (σ : Session) (number : ℕ) (s : List ℕ) (n : ℕ) → reply σ number s .answer ≡ A.Show n → Shows σ n (reply σ number s)
 reply-shows σ number s n e = go (lineKind s) (reply σ number s) (one-answer σ number s) e
   where
-    shown : (k : Kind) (y : Reply) → allowed σ (ruleOf k (σ .part)) ≡ ok tt → Answered σ (wordsOf k s) k y → y .answer ≡ A.Show n → Shows σ n y
+    shown : (k : Kind) (y : Reply) → allowed σ (ruleOf k (σ .part)) ≡ ok tt → LineAnswered σ (wordsOf k s) k y → y .answer ≡ A.Show n → Shows σ n y
     shown k y a (quiet p q) e = let z : _≡_ {A = ℕ} 0 1 = cc in absurd (omega arith)
     shown k y a (valued v p h t q) e = let z : _≡_ {A = ℕ} 0 1 = cc in absurd (omega arith)
     shown k y a (backed h p i t q) e = let z : _≡_ {A = ℕ} 0 1 = cc in absurd (omega arith)
@@ -98,7 +98,7 @@ printed σ n y a h t q =
 pub reply-prints : (σ : Session) (number : ℕ) (s : List ℕ) (n : ℕ) → reply σ number s .answer ≡ A.Text n → Prints σ n (reply σ number s)
 reply-prints σ number s n e = go (lineKind s) (reply σ number s) (one-answer σ number s) e
   where
-    by-kind : (k : Kind) (y : Reply) → allowed σ (ruleOf k (σ .part)) ≡ ok tt → Answered σ (wordsOf k s) k y → y .answer ≡ A.Text n → Prints σ n y
+    by-kind : (k : Kind) (y : Reply) → allowed σ (ruleOf k (σ .part)) ≡ ok tt → LineAnswered σ (wordsOf k s) k y → y .answer ≡ A.Text n → Prints σ n y
     by-kind k y a (quiet p q) e = let z : _≡_ {A = ℕ} 0 1 = cc in absurd (omega arith)
     by-kind k y a (valued v p h t q) e = let z : _≡_ {A = ℕ} 0 1 = cc in absurd (omega arith)
     by-kind k y a (backed h p i t q) e = let z : _≡_ {A = ℕ} 0 1 = cc in absurd (omega arith)
@@ -145,7 +145,7 @@ pub reply-moves : (σ : Session) → GoodSession σ → (number : ℕ) (s : List
     → (x : Move) × PrintsMove σ x (reply σ number s)
 reply-moves σ good number s i n a b c d e = go (lineKind s) (reply σ number s) (one-answer σ number s) e
   where
-    by-kind : (k : Kind) (y : Reply) → allowed σ (ruleOf k (σ .part)) ≡ ok tt → Answered σ (wordsOf k s) k y → y .answer ≡ A.Best i n a b c d → (x : Move) × PrintsMove σ x y
+    by-kind : (k : Kind) (y : Reply) → allowed σ (ruleOf k (σ .part)) ≡ ok tt → LineAnswered σ (wordsOf k s) k y → y .answer ≡ A.Best i n a b c d → (x : Move) × PrintsMove σ x y
     by-kind k y w (quiet p q) e = let z : _≡_ {A = ℕ} 0 1 = cc in absurd (omega arith)
     by-kind k y w (valued v p h t q) e = let z : _≡_ {A = ℕ} 0 1 = cc in absurd (omega arith)
     by-kind k y w (backed h p r t q) e = let z : _≡_ {A = ℕ} 0 1 = cc in absurd (omega arith)
@@ -190,7 +190,7 @@ counted σ good n m l y a h c t q =
 pub reply-counts : (σ : Session) → GoodSession σ → (number : ℕ) (s : List ℕ) (n m : ℕ) → reply σ number s .answer ≡ A.Count n m → PrintsCounts σ n m (reply σ number s)
 reply-counts σ good number s n m e = go (lineKind s) (reply σ number s) (one-answer σ number s) e
   where
-    by-kind : (k : Kind) (y : Reply) → allowed σ (ruleOf k (σ .part)) ≡ ok tt → Answered σ (wordsOf k s) k y → y .answer ≡ A.Count n m → PrintsCounts σ n m y
+    by-kind : (k : Kind) (y : Reply) → allowed σ (ruleOf k (σ .part)) ≡ ok tt → LineAnswered σ (wordsOf k s) k y → y .answer ≡ A.Count n m → PrintsCounts σ n m y
     by-kind k y w (quiet p q) e = let z : _≡_ {A = ℕ} 0 1 = cc in absurd (omega arith)
     by-kind k y w (valued v p h t q) e = let z : _≡_ {A = ℕ} 0 1 = cc in absurd (omega arith)
     by-kind k y w (backed h p r t q) e = let z : _≡_ {A = ℕ} 0 1 = cc in absurd (omega arith)
@@ -234,7 +234,7 @@ pub reply-replays : (σ : Session) (number : ℕ) (s : List ℕ) (n m : ℕ) →
     → (l : Live) × PrintsReplay σ (wordsOf K.Did s) l (reply σ number s)
 reply-replays σ number s n m e = go (lineKind s) (reply σ number s) (one-answer σ number s) e
   where
-    by-kind : (k : Kind) (y : Reply) → allowed σ (ruleOf k (σ .part)) ≡ ok tt → Answered σ (wordsOf k s) k y → y .answer ≡ A.Did n m
+    by-kind : (k : Kind) (y : Reply) → allowed σ (ruleOf k (σ .part)) ≡ ok tt → LineAnswered σ (wordsOf k s) k y → y .answer ≡ A.Did n m
         → (l : Live) × PrintsReplay σ (wordsOf K.Did s) l y
     by-kind k y w (quiet p q) e = let z : _≡_ {A = ℕ} 0 1 = cc in absurd (omega arith)
     by-kind k y w (valued v p h t q) e = let z : _≡_ {A = ℕ} 0 1 = cc in absurd (omega arith)

@@ -16,7 +16,7 @@ use Rattle.diagram.specs.Sizes.{highestValue}
 use Rattle.words.specs.declared.Key.{Key}
 use Rattle.names.specs.Keys.{placeOf, isAmong}
 use Rattle.state.specs.Lent.{allBelow, isState, stateOf}
-use Rattle.regression.specs.Next.{next}
+use Rattle.state.specs.Next.{next}
 use Rattle.mdp.specs.Model.{Model}
 use Rattle.mdp.specs.Bellman.{stateAfter}
 use Rattle.replay.specs.Replay.{Did, Replay, actionOf, inHand, stateNext, movedBy, counted, hasNoWeight, hasManyFacts, hasValuations, isTooHigh, did}

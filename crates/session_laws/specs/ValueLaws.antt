@@ -35,7 +35,7 @@ use Rattle.session.specs.Replies.{Reply, isPlaced, allowed, valueSays, done, pl
 use Rattle.session.specs.Good.{GoodSession}
 use Rattle.session_laws.specs.TextRuns.{HoldsValues, tooLarge}
 use Rattle.session_laws.specs.PlaceLaws.{in-run, value-placed, value-allowed, placed-objects}
-use Rattle.session_laws.specs.LineAnswers.{Answered, quiet, valued, backed, cutting, reducing, showing, printing, moving, counting, replaying}
+use Rattle.session_laws.specs.LineAnswers.{LineAnswered, quiet, valued, backed, cutting, reducing, showing, printing, moving, counting, replaying}
 use Rattle.session_laws.specs.LineAnswers.{OneAnswer, blank, refusing, accepted, IsValue}
 use Rattle.session_laws.specs.AnswerLaws.{one-answer}
 use Rattle.session_laws.specs.StateLaws.{Described, described}
@@ -80,7 +80,7 @@ pub value-bellman : (σ : Session) → GoodSession σ → (σ .part ≡ Run → 
     → reply σ number s .answer ≡ A.Value v k w → IsValue σ v k w
 value-bellman σ g holds number s v k w e = go (lineKind s) (reply σ number s) (one-answer σ number s) e
   where
-    valued-is : (i : Kind) (y : Reply) → allowed σ (ruleOf i (σ .part)) ≡ ok tt → Answered σ (wordsOf i s) i y → y .answer ≡ A.Value v k w → IsValue σ v k w
+    valued-is : (i : Kind) (y : Reply) → allowed σ (ruleOf i (σ .part)) ≡ ok tt → LineAnswered σ (wordsOf i s) i y → y .answer ≡ A.Value v k w → IsValue σ v k w
     valued-is i y a (quiet p q) e = let z : _≡_ {A = ℕ} 0 1 = cc in absurd (omega arith)
     valued-is i y a (valued x p h t q) e =
         let o = subst (λ j. allowed σ (ruleOf j (σ .part)) ≡ ok tt) p a in

@@ -10,6 +10,7 @@
 --   Fits == a valuation: θ gives every term an object of the state, what is no variable as placed
 --   Each, args, Terms == a property of every term of a list, of an atomic formula, of a diagram
 --   renameAtom, rename == each term replaced by what ρ gives it
+--   inner, factAfter, next == the next state: p(o ..) is true next exactly if its truth diagram gives 1 for o .. today; without one it stays
 --
 -- Definitions: the highest leaf
 --   IsMax, Highest == x is the highest of f on P: attained, and nothing above; the highest leaf over all valuations
@@ -42,10 +43,12 @@
 pub mod Max
 pub mod State
 pub mod Terms
+pub mod Next
 pub mod Highest
 pub mod Lent
 pub mod ValueCall
 pub mod MaxLaws
 pub mod ValueLaws
+pub mod NextLaws
 pub mod HighestLaws
 pub mod LentLaws

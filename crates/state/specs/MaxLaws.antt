@@ -43,36 +43,12 @@ module _ {X : Type 0} {P : X → Type 0} {f g h : X → ℕ} where
   pub max-both : {x y : ℕ} → IsMax P f x → IsMax P g y → ((a : X) → P a → h a ≡ max (f a) (g a)) → IsMax P h (max x y)
   max-both {x} {y} m k e = go (leb x y) refl
     where
-      all : (a : X) → P a → h a ≤ max x y
-      all a p =
-          let u = m .bound a p in
-          let v = k .bound a p in
-          let w = e a p in
-          omega arith
+      at : (a : X) → P a → h a ≡ max x y → IsMax P h (max x y)
+      at a i v = record { point = a; inside = i; value = v; bound = λ b p. omega (arith, m .bound b p, k .bound b p, e b p) }
 
       go : (b : Bool) → leb x y ≡ b → IsMax P h (max x y)
-      go true q = record {
-        point = k .point;
-        inside = k .inside;
-        value =
-            let l = leb-true x y q in
-            let u = m .bound (k .point) (k .inside) in
-            let v = k .value in
-            let w = e (k .point) (k .inside) in
-            omega arith;
-        bound = all;
-      }
-      go false q = record {
-        point = m .point;
-        inside = m .inside;
-        value =
-            let l = leb-false x y q in
-            let u = k .bound (m .point) (m .inside) in
-            let v = m .value in
-            let w = e (m .point) (m .inside) in
-            omega arith;
-        bound = all;
-      }
+      go true q = at (k .point) (k .inside) (omega (arith, leb-true x y q, m .bound (k .point) (k .inside), k .value, e (k .point) (k .inside)))
+      go false q = at (m .point) (m .inside) (omega (arith, leb-false x y q, k .bound (m .point) (m .inside), m .value, e (m .point) (m .inside)))
 
 maxTo-bound : (n : ℕ) (f : ℕ → ℕ) (o : ℕ) → o < n → f o ≤ maxTo n f
 unfolding maxTo

@@ -3,11 +3,12 @@ use mathlib.Core.Path.{_≡_, refl, ap, ap₂, _∙_}
 use mathlib.Core.List.{List, [], _∷_, map}
 use mathlib.Core.Bool.{Bool, true, false, cond}
 use Prim.Native.Nat.{ℕ, _≤_, _<_}
+use native.Mathlib.Omega.{arith}
 use lib.Dec.{ltb}
 use borrow.Author.Tests.{ltb-true, ltb-false, lt-ltb, le-ltb}
 use Rattle.label.specs.Limits.{firstVariable}
 use Rattle.diagram.specs.Diagram.{Tree, leaf, branch, eval}
-use Rattle.state.specs.State.{Atomic, atom, State, truth, holds, value, low, Fits}
+use Rattle.state.specs.State.{Atomic, atom, State, truth, holds, value, low, Fits, fixed}
 use Rattle.state.specs.Terms.{Each, args, Terms, rename}
 
 pub low-lt : (m t x y : ℕ) → t < m → low m t x y ≡ x
@@ -70,6 +71,10 @@ Terms-mono P Q e (leaf x) w = tt
 Terms-mono P Q e (branch (atom p ts) t g) w = (Each-mono P Q e ts (w .0), Terms-mono P Q e t (w .1), Terms-mono P Q e g (w .2))
 
 -- a valuation after a renaming that leaves what is no variable
+pub fits-zero : {s : State} {os : List ℕ} {θ : ℕ → ℕ} → Fits s os θ → θ 0 ≡ s .constant 0
+unfolding fixed
+fits-zero {s} {os} f = f .low 0 (omega arith)
+
 pub fits-after : {s : State} {os : List ℕ} {θ ρ : ℕ → ℕ} → Fits s os θ → ((t : ℕ) → t < firstVariable → ρ t ≡ t) → Fits s os (λ t. θ (ρ t))
 fits-after {θ = θ} {ρ = ρ} f k = record {
   low = λ t h. ap θ (k t h) ∙ f .low t h;

@@ -17,7 +17,7 @@ use Rattle.diagram.specs.Words.{isListing}
 use Rattle.diagram.specs.Listing.{diagramOf}
 use Rattle.steps.specs.declared.Step.{Step}
 use Rattle.steps.specs.declared.Step.the-variants.{Rows, Refused}
-use Rattle.steps.specs.Steps.{Result, Given, Begun, Begins}
+use Rattle.steps.specs.Steps.{Result, Given, Begun, BufferListing}
 use Rattle.steps.specs.GivenLaws.{leaf-listing, leaf-diagram, given-refused, result-given, done-then, step-refused}
 
 -- ===== Lists by number =====
@@ -56,7 +56,7 @@ module _ {A : Type 0} (s : List A → Outcome Diagram) (step : Diagram → A →
   }
 
   module _ {out : List ℕ} {n v : ℕ} (x : Folded ar s f out n v) where
-    pub folded-begins : Begins ar n out
+    pub folded-begins : BufferListing ar n out
     folded-begins = record { listing = x .result .listing; room = x .result .room }
 
     step-is : s (many f (suc v)) ≡ step (diagramOf (take (n * 3) out)) (f v)

@@ -28,7 +28,7 @@ use Rattle.apply.specs.declared.Combined.the-variants.{Done, Refused as NotComb
 use Rattle.apply.specs.Combination.{doneAs}
 use Rattle.apply.specs.CombinationLaws.{done-accepted}
 use Rattle.regression.specs.RegressCall.{writtenAs}
-use Rattle.combine.specs.Calls.{Callable, Answered}
+use Rattle.combine.specs.Calls.{Callable, CombineAnswered}
 use Rattle.mdp.specs.Backup.{combined}
 use Rattle.mdp.specs.StepLaws.{combined-done, combined-refused}
 use Rattle.mdp.specs.CallLaws.{leaf-listed, combined-listed}
@@ -53,7 +53,7 @@ callable {ar} {x} {y} o = record { first = listing-is-valid ar x (o .first); sec
 
 -- the answer and the words of a combination, as those of a step
 module _ (op : Operation) (names : Names) (ar x y out : List ℕ) where
-  combined-wrote : (r : Combined) (out′ : List ℕ) → Answered op (doneAs op names ar (diagramOf x) (diagramOf y)) ar x y out r out′
+  combined-wrote : (r : Combined) (out′ : List ℕ) → CombineAnswered op (doneAs op names ar (diagramOf x) (diagramOf y)) ar x y out r out′
       → Accepted (Good ar) (combined op names ar (diagramOf x) (diagramOf y)) → Wrote ar (combined op names ar (diagramOf x) (diagramOf y)) (toldAs r) out out′
   combined-wrote (Done n pairs) out′ a g =
       let e = combined-done op names ar (diagramOf x) (diagramOf y) n pairs (sym (a .answer)) in
@@ -72,7 +72,7 @@ module _ (op : Operation) (names : Names) (ar x y out : List ℕ) where
       }
 
 pub named-wrote : {op : Operation} (names : Names) {ar x y out work : List ℕ} → Operands ar x y out work
-    → {r : Combined} {out′ : List ℕ} → Answered op (doneAs op names ar (diagramOf x) (diagramOf y)) ar x y out r out′
+    → {r : Combined} {out′ : List ℕ} → CombineAnswered op (doneAs op names ar (diagramOf x) (diagramOf y)) ar x y out r out′
     → {q : Step} → q ≡ toldAs r → Wrote ar (combined op names ar (diagramOf x) (diagramOf y)) q out out′
 named-wrote {op} names {ar} {x} {y} {out} o {r} {out′} a {q} e =
     subst (λ (z : Step). Wrote ar (combined op names ar (diagramOf x) (diagramOf y)) z out out′) (sym e)

@@ -45,7 +45,7 @@ pub record Wrote (ar : List ℕ) (o : Outcome Diagram) (r : Step) (out out′ : 
   pub good : Accepted (Good ar) o
 
 -- the first n rows of the buffer are a listing
-pub record Begins (ar : List ℕ) (n : ℕ) (out : List ℕ) : Type 0 where
+pub record BufferListing (ar : List ℕ) (n : ℕ) (out : List ℕ) : Type 0 where
   pub listing : isListing ar (take (n * 3) out) ≡ true
   pub room : n * 3 ≤ length out
 

@@ -11,6 +11,7 @@ use lib.Dec.{eqb}
 use mir.Val.{Fits}
 use mir.Syntax.{w16}
 use Rattle.basics.specs.Tests.{Flag, isTrue, isFalse, flag, Cmp, cmp, below, equal, above}
+use Rattle.basics.specs.Prefix.{Prefix, prefix-refl, prefix-trans, prefix-snoc}
 use Rattle.label.specs.Limits.{leafMark}
 use Rattle.label.specs.Labels.{packed}
 use Rattle.label.specs.Renamings.{mapOf, renamed}
@@ -29,7 +30,6 @@ use Rattle.diagram.specs.RowLaws.{kept-index-is}
 use Rattle.diagram.specs.RowDiagrams.{branch-row}
 use Rattle.diagram.specs.DiagramOfListing.{valid-rows, shown-rows, diagram-is, rows-are}
 use Rattle.diagram.specs.ListingValid.{listing-is-valid}
-use Rattle.apply.specs.Snoc.{Begins, begins-refl, begins-trans, begins-snoc}
 use Rattle.apply.specs.Formed.{add}
 use Rattle.apply.specs.FormedLaws.{add-mem, add-begins}
 use Rattle.store.specs.declared.Formed.{Formed}
@@ -118,15 +118,15 @@ carriedRows ar ws ts k = map (λ j. renamedOf ar ts (tree ws j)) (upTo k)
 carried-next : (ar ws ts : List ℕ) (k : ℕ) → carriedRows ar ws ts (k + 1) ≡ carriedRows ar ws ts k ++ (renamedOf ar ts (tree ws k) ∷ [])
 carried-next ar ws ts k = rw add-one (map-snoc (λ j. renamedOf ar ts (tree ws j)) (upTo k) k)
 
-carried-begins : (ar ws ts : List ℕ) (a b : ℕ) → a ≤ b → Begins (carriedRows ar ws ts a) (carriedRows ar ws ts b)
-carried-begins ar ws ts a zero h = let e : a ≡ 0 = omega arith in rw e (begins-refl [])
+carried-begins : (ar ws ts : List ℕ) (a b : ℕ) → a ≤ b → Prefix (carriedRows ar ws ts a) (carriedRows ar ws ts b)
+carried-begins ar ws ts a zero h = let e : a ≡ 0 = omega arith in rw e (prefix-refl [])
 carried-begins ar ws ts a (suc b) h = go (cmp a (suc b)) (carried-begins ar ws ts a b)
   where
-    go : Cmp a (suc b) → (a ≤ b → Begins (carriedRows ar ws ts a) (carriedRows ar ws ts b)) → Begins (carriedRows ar ws ts a) (carriedRows ar ws ts (suc b))
+    go : Cmp a (suc b) → (a ≤ b → Prefix (carriedRows ar ws ts a) (carriedRows ar ws ts b)) → Prefix (carriedRows ar ws ts a) (carriedRows ar ws ts (suc b))
     go (below q) ih =
         rw (map-snoc (λ j. renamedOf ar ts (tree ws j)) (upTo b) b)
-        (begins-trans (carriedRows ar ws ts a) (carriedRows ar ws ts b) _ (ih (omega arith)) (begins-snoc (carriedRows ar ws ts b) (renamedOf ar ts (tree ws b))))
-    go (equal q) ih = rw q (begins-refl (carriedRows ar ws ts (suc b)))
+        (prefix-trans (ih (omega arith)) (prefix-snoc (carriedRows ar ws ts b) (renamedOf ar ts (tree ws b))))
+    go (equal q) ih = rw q (prefix-refl (carriedRows ar ws ts (suc b)))
     go (above q) ih = absurd (omega arith)
 
 map-twice : (f : Diagram → Diagram) (g : ℕ → Diagram) (xs : List ℕ) → map f (map g xs) ≡ map (λ j. f (g j)) xs

@@ -10,6 +10,7 @@ use lib.Seq.{take-all, take-append-le, getD-at}
 use lib.Dec.{leb, lit≤}
 use Rattle.basics.specs.Tests.{Flag, isTrue, isFalse, flag}
 use Rattle.basics.specs.Members.{mem}
+use Rattle.basics.specs.Prefix.{Prefix, prefix-length, prefix-getD}
 use Rattle.label.specs.Limits.{leafMark}
 use Rattle.table.specs.declared.Row.{Row as TableRow}
 use Rattle.table.specs.declared.Found.the-variants.{At, Nothing}
@@ -33,7 +34,6 @@ use Rattle.diagram.specs.Shown.{Shown, reads}
 use Rattle.diagram.specs.WrittenRows.{written-shown, rows-places, written-none, written-leaf, written-branch, leaf-found, branch-found, leaf-missing, branch-missing}
 use Rattle.apply.specs.Apply.{node}
 use Rattle.apply.specs.ApplyLaws.{node-same, node-differ}
-use Rattle.apply.specs.Snoc.{Begins, begins-length, begins-getD}
 use Rattle.apply.specs.Formed.{add, ClosedRows}
 use Rattle.apply.specs.FormedLaws.{add-old, add-new}
 use Rattle.store.specs.declared.Formed.{Formed}
@@ -323,21 +323,21 @@ module _ {d : Diagram} {rs : List Diagram} {s heads links : List ℕ} {i n : ℕ
       (h, sym (diagram-at s n i h) ∙ ap (λ (x : List Diagram). rowTree x i) (r .3) ∙ ap (rowTree rs) (r .1) ∙ getD-index d rs (leaf 0) m)
 
   -- rows that were there stand for what they stood for
-  pub formation-old : (us : List ℕ) (count : ℕ) → Begins (diagramsOf us count) rs → (k : ℕ) → k < count → (k < n) × (tree s k ≡ tree us k)
+  pub formation-old : (us : List ℕ) (count : ℕ) → Prefix (diagramsOf us count) rs → (k : ℕ) → k < count → (k < n) × (tree s k ≡ tree us k)
   formation-old us count b k h =
       let r = formation-row f in
       let l = length-diagrams us count in
-      let k′ : k < n = omega (arith, r .2, begins-length (diagramsOf us count) rs b) in
-      (k′, sym (diagram-at s n k k′) ∙ ap (λ (x : List Diagram). rowTree x k) (r .3) ∙ begins-getD (diagramsOf us count) rs k (leaf 0) b (omega arith) ∙ diagram-at us count k h)
+      let k′ : k < n = omega (arith, r .2, prefix-length b) in
+      (k′, sym (diagram-at s n k k′) ∙ ap (λ (x : List Diagram). rowTree x k) (r .3) ∙ prefix-getD b k (leaf 0) (omega arith) ∙ diagram-at us count k h)
 
 -- where there is no room for some rows, there is none for more
-pub full-more : {d : Diagram} {rs : List Diagram} {s heads links : List ℕ} (e : Diagram) (qs : List Diagram) → Formation d rs Full s heads links → Begins rs qs
+pub full-more : {d : Diagram} {rs : List Diagram} {s heads links : List ℕ} (e : Diagram) (qs : List Diagram) → Formation d rs Full s heads links → Prefix rs qs
     → Formation e qs Full s heads links
 full-more {d} {rs} {s} {heads} {links} e qs f b =
     let h = formation-full f in
     record {
-      answer = sym (answer-full e qs (omega (arith, begins-length rs qs b)));
-      diagrams = f .diagrams ∙ sym (ap (take spaceRows) (b .whole) ∙ take-append-le spaceRows rs (b .rest) (omega arith));
+      answer = sym (answer-full e qs (omega (arith, prefix-length b)));
+      diagrams = f .diagrams ∙ sym (ap (take spaceRows) (b .is) ∙ take-append-le spaceRows rs (b .more) (omega arith));
       holds = f .holds;
     }
 

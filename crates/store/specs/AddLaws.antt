@@ -5,12 +5,12 @@ use mathlib.Core.List.{List, [], _∷_, _++_, map}
 use Prim.Native.Nat.{ℕ}
 use Rattle.basics.specs.Tests.{Flag, isTrue, isFalse, flag, Either, one, other, either}
 use Rattle.basics.specs.Members.{mem, clash}
+use Rattle.basics.specs.Prefix.{Prefix, prefix-refl, prefix-trans, mem-prefix}
 use Rattle.diagram.specs.Diagram.{Diagram, leaf, branch, same, relabel}
 use Rattle.diagram.specs.Rows.{onto, rows}
-use Rattle.diagram.specs.DiagramLaws.{same-eq, diagram-test, onto-old, onto-leaf, onto-branch}
+use Rattle.diagram.specs.DiagramLaws.{same-eq, onto-old, onto-leaf, onto-branch}
 use Rattle.diagram.specs.RowLists.{Kept}
 use Rattle.diagram.specs.RowLaws.{onto-fresh, kept-children}
-use Rattle.apply.specs.Snoc.{Begins, begins-refl, begins-trans, mem-begins}
 use Rattle.apply.specs.Formed.{add, ClosedRows}
 use Rattle.apply.specs.FormedLaws.{add-old, add-new, add-mem, add-begins, add-leaf}
 use Rattle.apply.specs.RowLaws.{onto-closed, rows-onto}
@@ -30,13 +30,13 @@ pub add-all-snoc : (rs xs : List Diagram) (x : Diagram) → addAll rs (xs ++ (x 
 unfolding addAll
 add-all-snoc rs xs x = add-all-append rs xs (x ∷ [])
 
-pub add-all-begins : (rs ds : List Diagram) → Begins rs (addAll rs ds)
+pub add-all-begins : (rs ds : List Diagram) → Prefix rs (addAll rs ds)
 unfolding addAll
-add-all-begins rs [] = begins-refl rs
-add-all-begins rs (d ∷ ds) = begins-trans rs (add d rs) (addAll (add d rs) ds) (add-begins d rs) (add-all-begins (add d rs) ds)
+add-all-begins rs [] = prefix-refl rs
+add-all-begins rs (d ∷ ds) = prefix-trans (add-begins d rs) (add-all-begins (add d rs) ds)
 
-pub add-all-more : (rs xs ys : List Diagram) → Begins xs ys → Begins (addAll rs xs) (addAll rs ys)
-add-all-more rs xs ys b = rw (b .whole, add-all-append rs xs (b .rest)) (add-all-begins (addAll rs xs) (b .rest))
+pub add-all-more : (rs xs ys : List Diagram) → Prefix xs ys → Prefix (addAll rs xs) (addAll rs ys)
+add-all-more rs xs ys b = rw (b .is, add-all-append rs xs (b .more)) (add-all-begins (addAll rs xs) (b .more))
 
 pub add-all-mem : (rs ds : List Diagram) (x : Diagram) → mem same x ds ≡ true → mem same x (addAll rs ds) ≡ true
 unfolding addAll
@@ -44,7 +44,7 @@ add-all-mem rs [] x h = clash h refl
 add-all-mem rs (d ∷ ds) x h = go (either (same x d) (mem same x ds) h) (add-all-mem (add d rs) ds x)
   where
     go : Either (same x d) (mem same x ds) → (mem same x ds ≡ true → mem same x (addAll (add d rs) ds) ≡ true) → mem same x (addAll (add d rs) ds) ≡ true
-    go (one e) ih = mem-begins same diagram-test x (add d rs) (addAll (add d rs) ds) (add-all-begins (add d rs) ds) (rw (same-eq x d e) (add-mem d rs))
+    go (one e) ih = mem-prefix same x (add-all-begins (add d rs) ds) (rw (same-eq x d e) (add-mem d rs))
     go (other e) ih = ih e
 
 -- a branch whose children were just put onto the rows

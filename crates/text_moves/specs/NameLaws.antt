@@ -161,13 +161,13 @@ abbrev parametersOf : List (Words K.Action) → List ℕ
 parametersOf ws = map (λ (w : Words K.Action). length (w .1)) ws
 
 -- the actions behind lines are those before them, then the ones declared
-record Grown (σ : Session) (ls : List (List ℕ)) (ys : List Reply) (τ : Session) : Type 0 where
+record ActionsGrown (σ : Session) (ls : List (List ℕ)) (ys : List Reply) (τ : Session) : Type 0 where
   lines : List (Words K.Action)
   declared : Declares ls ys lines
   names : τ .names .actions ≡ σ .names .actions ++ keysOf lines
   counts : countsOf τ ≡ countsOf σ ++ parametersOf lines
 
-lines-grow : (p : Progress) (ls : List (List ℕ)) → Grown (p .session) ls (replies (p .session) (p .lines) ls) (afterLines p ls .session)
+lines-grow : (p : Progress) (ls : List (List ℕ)) → ActionsGrown (p .session) ls (replies (p .session) (p .lines) ls) (afterLines p ls .session)
 unfolding afterLines afterLine replies
 lines-grow p [] = record { lines = []; declared = no-line; names = sym (append-nil (p .session .names .actions)); counts = sym (append-nil (countsOf (p .session))) }
 lines-grow p (s ∷ ls) = go (effect σ (suc (p .lines)) s) (lines-grow (replied p (hasBytes s) y) ls)
@@ -184,7 +184,7 @@ lines-grow p (s ∷ ls) = go (effect σ (suc (p .lines)) s) (lines-grow (replied
     ys : List Reply
     ys = replies (y .session) (suc (p .lines)) ls
 
-    go : Effect σ (wordsOf (lineKind s) s) (lineKind s) y → Grown (y .session) ls ys τ → Grown σ (s ∷ ls) (y ∷ ys) τ
+    go : Effect σ (wordsOf (lineKind s) s) (lineKind s) y → ActionsGrown (y .session) ls ys τ → ActionsGrown σ (s ∷ ls) (y ∷ ys) τ
     go (keeps k n c) r = record {
       lines = r .lines;
       declared = other (λ w g e. k (ap isAction (ap lineKind e ∙ line-complete (line K.Action w) g))) (r .declared);
@@ -209,7 +209,7 @@ lines-grow p (s ∷ ls) = go (effect σ (suc (p .lines)) s) (lines-grow (replied
         }
 
 -- behind whatever lines
-text-grown : (ls : List (List ℕ)) → Grown opening ls (replies opening 0 ls) (afterLines beginning ls .session)
+text-grown : (ls : List (List ℕ)) → ActionsGrown opening ls (replies opening 0 ls) (afterLines beginning ls .session)
 unfolding beginning
 text-grown ls = lines-grow beginning ls
 
@@ -243,7 +243,7 @@ tuple-length (more h t) = ap suc (tuple-length t)
 pub text-names : (ls : List (List ℕ)) (σ : Session) → σ ≡ afterLines beginning ls .session → (x : Move) (y : Reply) → MovesBy σ x y → NamesMove ls x (replyBytes y)
 unfolding opening nameField actionAt
 text-names ls σ q x y h =
-    let g = subst (λ (τ : Session). Grown opening ls (replies opening 0 ls) τ) (sym q) (text-grown ls) in
+    let g = subst (λ (τ : Session). ActionsGrown opening ls (replies opening 0 ls) τ) (sym q) (text-grown ls) in
     let ws = g .lines in
     let i = x .action in
     let place : i < length ws = omega (arith, h .declared, ap length (g .names), length-map ws (λ (w : Words K.Action). keyOf (w .0))) in

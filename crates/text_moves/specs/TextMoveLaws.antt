@@ -28,7 +28,8 @@ use Rattle.session.specs.Running.{stateIn}
 use Rattle.session.specs.Replies.{Reply, allowed, wordsOf, reply}
 use Rattle.session.specs.Texts.{Progress, afterLine, afterLines, beginning}
 use Rattle.session_laws.specs.PlaceLaws.{model-run, in-run}
-use Rattle.session_laws.specs.LineAnswers.{valueLine, Answered, quiet, valued, backed, cutting, reducing, showing, printing, moving, counting, replaying, OneAnswer, blank, refusing, accepted, IsValue}
+use Rattle.session_laws.specs.LineAnswers.{valueLine, LineAnswered, quiet, valued, backed, cutting, reducing, showing, printing, moving, counting, replaying}
+use Rattle.session_laws.specs.LineAnswers.{OneAnswer, blank, refusing, accepted, IsValue}
 use Rattle.session_laws.specs.AnswerLaws.{one-answer}
 use Rattle.session_laws.specs.FoldLaws.{lines-count, after-then}
 use Rattle.session_laws.specs.KeepLaws.{lines-keep}
@@ -102,7 +103,7 @@ record Backed (σ : Session) (y : Reply) : Type 0 where
 backup-read : (σ : Session) (number : ℕ) (s : List ℕ) (k n : ℕ) → reply σ number s .answer ≡ A.Backup k n → Backed σ (reply σ number s)
 backup-read σ number s k n e = go (lineKind s) (reply σ number s) (one-answer σ number s) e
   where
-    by-kind : (i : Kind) (y : Reply) → allowed σ (ruleOf i (σ .part)) ≡ ok tt → Answered σ (wordsOf i s) i y → y .answer ≡ A.Backup k n → Backed σ y
+    by-kind : (i : Kind) (y : Reply) → allowed σ (ruleOf i (σ .part)) ≡ ok tt → LineAnswered σ (wordsOf i s) i y → y .answer ≡ A.Backup k n → Backed σ y
     by-kind i y a (quiet p q) e = let z : _≡_ {A = ℕ} 0 1 = cc in absurd (omega arith)
     by-kind i y a (valued x p h t q) e = let z : _≡_ {A = ℕ} 0 1 = cc in absurd (omega arith)
     by-kind i y a (backed h p r t q) e = record {

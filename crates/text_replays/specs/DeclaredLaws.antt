@@ -51,14 +51,14 @@ allIn [] = []
 allIn (x ∷ xs) = map keyOf (x .variants) ++ allIn xs
 
 -- the names of τ are those of σ, then the variants vs of the last action, then the actions xs with theirs
-record Grown (σ τ : Session) (vs : List (List ℕ)) (xs : List ActionLines) : Type 0 where
+record NamesGrown (σ τ : Session) (vs : List (List ℕ)) (xs : List ActionLines) : Type 0 where
   actions : τ .names .actions ≡ σ .names .actions ++ keysOf xs
   counts : countsOf τ ≡ countsOf σ ++ parametersOf xs
   lens : lensOf τ ≡ addLast (lensOf σ) (length vs) ++ lensIn xs
   all : allOf τ ≡ allOf σ ++ (map keyOf vs ++ allIn xs)
 
-module _ (σ ρ τ : Session) (vs : List (List ℕ)) (xs : List ActionLines) (r : Grown ρ τ vs xs) where
-  grow-leaves : Same σ ρ → Grown σ τ vs xs
+module _ (σ ρ τ : Session) (vs : List (List ℕ)) (xs : List ActionLines) (r : NamesGrown ρ τ vs xs) where
+  grow-leaves : Same σ ρ → NamesGrown σ τ vs xs
   grow-leaves e = record {
     actions = r .actions ∙ ap (λ (l : List Key). l ++ keysOf xs) (e .actions);
     counts = r .counts ∙ ap (λ (l : List ℕ). l ++ parametersOf xs) (e .counts);
@@ -67,7 +67,7 @@ module _ (σ ρ τ : Session) (vs : List (List ℕ)) (xs : List ActionLines) (r 
   }
 
   grow-action : (w : Words K.Action) → ρ .names .actions ≡ σ .names .actions ++ (keyOf (w .0) ∷ []) → countsOf ρ ≡ countsOf σ ++ (length (w .1) ∷ [])
-      → lensOf ρ ≡ lensOf σ ++ (0 ∷ []) → allOf ρ ≡ allOf σ → Grown σ τ [] (record { action = w; variants = vs } ∷ xs)
+      → lensOf ρ ≡ lensOf σ ++ (0 ∷ []) → allOf ρ ≡ allOf σ → NamesGrown σ τ [] (record { action = w; variants = vs } ∷ xs)
   grow-action w n c l v = record {
     actions = r .actions ∙ ap (λ (z : List Key). z ++ keysOf xs) n ∙ append-assoc (σ .names .actions) (keyOf (w .0) ∷ []) (keysOf xs);
     counts = r .counts ∙ ap (λ (z : List ℕ). z ++ parametersOf xs) c ∙ append-assoc (countsOf σ) (length (w .1) ∷ []) (parametersOf xs);
@@ -80,7 +80,7 @@ module _ (σ ρ τ : Session) (vs : List (List ℕ)) (xs : List ActionLines) (r 
   }
 
   grow-variant : (w : Words K.Variant) → ρ .names .actions ≡ σ .names .actions → countsOf ρ ≡ countsOf σ
-      → lensOf ρ ≡ addLast (lensOf σ) 1 → allOf ρ ≡ allOf σ ++ (keyOf (w .0) ∷ []) → Grown σ τ (w .0 ∷ vs) xs
+      → lensOf ρ ≡ addLast (lensOf σ) 1 → allOf ρ ≡ allOf σ ++ (keyOf (w .0) ∷ []) → NamesGrown σ τ (w .0 ∷ vs) xs
   grow-variant w n c l v = record {
     actions = r .actions ∙ ap (λ (z : List Key). z ++ keysOf xs) n;
     counts = r .counts ∙ ap (λ (z : List ℕ). z ++ parametersOf xs) c;
@@ -89,18 +89,18 @@ module _ (σ ρ τ : Session) (vs : List (List ℕ)) (xs : List ActionLines) (r 
   }
 
 -- one line, then lines that declare vs and xs
-module _ (σ : Session) (number : ℕ) (s : List ℕ) (τ : Session) (vs : List (List ℕ)) (xs : List ActionLines) (r : Grown (reply σ number s .session) τ vs xs) where
+module _ (σ : Session) (number : ℕ) (s : List ℕ) (τ : Session) (vs : List (List ℕ)) (xs : List ActionLines) (r : NamesGrown (reply σ number s .session) τ vs xs) where
   abbrev y : Reply
   y = reply σ number s
 
   first-action : (w : Words K.Action) → GoodLine (line K.Action w) → s ≡ lineBytes (line K.Action w) → isRefused (y .answer) ≡ false
-      → Grown σ τ [] (record { action = w; variants = vs } ∷ xs)
+      → NamesGrown σ τ [] (record { action = w; variants = vs } ∷ xs)
   first-action w g b f = go (effect σ number s)
     where
       kind : lineKind s ≡ K.Action
       kind = ap lineKind b ∙ line-complete (line K.Action w) g
 
-      go : NamesEffect σ (wordsOf (lineKind s) s) (lineKind s) y → Grown σ τ [] (record { action = w; variants = vs } ∷ xs)
+      go : NamesEffect σ (wordsOf (lineKind s) s) (lineKind s) y → NamesGrown σ τ [] (record { action = w; variants = vs } ∷ xs)
       go (leaves k e) = clash (k (ap declaring kind)) f
       go (a-variant k h n c l v) = let e = sym kind ∙ k in let z : _≡_ {A = ℕ} 0 1 = cc in absurd (omega arith)
       go (an-action k h n c l v) =
@@ -109,13 +109,13 @@ module _ (σ : Session) (number : ℕ) (s : List ℕ) (τ : Session) (vs : List 
           let count = ap (λ (z : List Event). length (keysIn (drop 1 z))) es ∙ action-count w g in
           grow-action σ (y .session) τ vs xs r w (n ∙ ap (λ (i : Key). σ .names .actions ++ (i ∷ [])) key) (c ∙ ap (λ (i : ℕ). countsOf σ ++ (i ∷ [])) count) l v
 
-  first-variant : (w : Words K.Variant) → GoodLine (line K.Variant w) → s ≡ lineBytes (line K.Variant w) → isRefused (y .answer) ≡ false → Grown σ τ (w .0 ∷ vs) xs
+  first-variant : (w : Words K.Variant) → GoodLine (line K.Variant w) → s ≡ lineBytes (line K.Variant w) → isRefused (y .answer) ≡ false → NamesGrown σ τ (w .0 ∷ vs) xs
   first-variant w g b f = go (effect σ number s)
     where
       kind : lineKind s ≡ K.Variant
       kind = ap lineKind b ∙ line-complete (line K.Variant w) g
 
-      go : NamesEffect σ (wordsOf (lineKind s) s) (lineKind s) y → Grown σ τ (w .0 ∷ vs) xs
+      go : NamesEffect σ (wordsOf (lineKind s) s) (lineKind s) y → NamesGrown σ τ (w .0 ∷ vs) xs
       go (leaves k e) = clash (k (ap declaring kind)) f
       go (an-action k h n c l v) = let e = sym kind ∙ k in let z : _≡_ {A = ℕ} 0 1 = cc in absurd (omega arith)
       go (a-variant k h n c l v) =
@@ -123,16 +123,16 @@ module _ (σ : Session) (number : ℕ) (s : List ℕ) (τ : Session) (vs : List 
           let key = ap (λ (z : List Event). keyIn (wordAt z 0)) es ∙ variant-key w g in
           grow-variant σ (y .session) τ vs xs r w n c l (v ∙ ap (λ (i : Key). allOf σ ++ (i ∷ [])) key)
 
-  first-other : (AcceptedAs K.Action s y → ⊥) → (AcceptedAs K.Variant s y → ⊥) → Grown σ τ vs xs
+  first-other : (AcceptedAs K.Action s y → ⊥) → (AcceptedAs K.Variant s y → ⊥) → NamesGrown σ τ vs xs
   first-other a b = go (effect σ number s)
     where
-      go : NamesEffect σ (wordsOf (lineKind s) s) (lineKind s) y → Grown σ τ vs xs
+      go : NamesEffect σ (wordsOf (lineKind s) s) (lineKind s) y → NamesGrown σ τ vs xs
       go (leaves k e) = grow-leaves σ (y .session) τ vs xs r e
       go (an-action k h n c l v) = absurd (a (k, h))
       go (a-variant k h n c l v) = absurd (b (k, h))
 
 grown : (p : Progress) (ls : List (List ℕ)) (vs : List (List ℕ)) (xs : List ActionLines) → Declarations ls (replies (p .session) (p .lines) ls) vs xs
-    → Grown (p .session) (afterLines p ls .session) vs xs
+    → NamesGrown (p .session) (afterLines p ls .session) vs xs
 unfolding afterLines afterLine replies
 grown p [] vs xs none = record {
   actions = sym (append-nil (p .session .names .actions));
@@ -209,7 +209,7 @@ map-at f (x ∷ xs) zero d e q = refl
 map-at f (x ∷ xs) (suc i) d e q = map-at f xs i d e q
 
 module _ (ls : List (List ℕ)) (vs : List (List ℕ)) (xs : List ActionLines) (d : Declarations ls (replies opening 0 ls) vs xs) where
-  text-grown : Grown opening (reached ls) vs xs
+  text-grown : NamesGrown opening (reached ls) vs xs
   unfolding beginning
   text-grown = grown beginning ls vs xs d
 

@@ -19,6 +19,7 @@ use Rattle.label.specs.Limits.{predicateCount}
 use Rattle.diagram.specs.Diagram.{Diagram}
 use Rattle.diagram.specs.Words.{upTo}
 use Rattle.state.specs.State.{State, meaning}
+use Rattle.state.specs.Next.{factAfter, next}
 use Rattle.state.specs.Lent.{factWords, factCount, predicateAt, saysFact, saidBy, stateOf, allBelow}
 use Rattle.state.specs.LentLaws.{some-found}
 use Rattle.paths.specs.PathLaws.{mem-unmap}
@@ -27,7 +28,6 @@ use Rattle.state.specs.Max.{those}
 use Rattle.reduction.specs.ListLaws.{in-gather, in-those}
 use Rattle.regression.specs.Regression.{Truths}
 use Rattle.regression.specs.RegressCall.{leafAbove}
-use Rattle.regression.specs.Next.{factAfter, next}
 use Rattle.mdp.specs.Model.{Variant, Action, Model, Every}
 use Rattle.mdp.specs.Runs.{begin}
 use Rattle.mdp.specs.Bellman.{stateAfter}

@@ -8,6 +8,7 @@ use borrow.Author.Tests.{le-leb, lt-leb, leb-true, leb-false}
 use lib.Dec.{leb}
 use lib.ListN.{length, take, drop, length-drop}
 use lib.Seq.{length-take-le, drop-drop, take-add}
+use Rattle.basics.specs.Prefix.{prefix-length}
 use Rattle.answers.specs.Writing.{mostBytes}
 use Rattle.session.specs.Texts.{Lines, linesOf, Progress, afterLine, beginning}
 use Rattle.memory.specs.declared.Numbers.{Numbers}
@@ -19,7 +20,7 @@ use Rattle.texts.specs.declared.Answered.{Answered}
 use Rattle.texts.specs.Ends.{lineLength}
 use Rattle.texts.specs.LineLaws.{behindLine, line-within, lines-first, lines-none, rest-all}
 use Rattle.texts.specs.Running.{Filled, fits, fillRest, fillFrom, filledBehind, filled, Fills}
-use Rattle.texts.specs.RunningLaws.{rest-grows, line-begins, begins-short}
+use Rattle.texts.specs.RunningLaws.{rest-grows, line-begins}
 use Rattle.texts.specs.Sending.{mostLines, progressOf, Going, Started, Starts}
 use Rattle.texts.specs.Streaming.{Stream, fresh, onBytes}
 use Rattle.texts.specs.StreamLaws.{bytes-append, whole-line}
@@ -208,7 +209,7 @@ module _ {block : List ℕ} {from free : ℕ} {q : Progress} {x : Whole} {out₀
           let f : r′ .full ≡ false = m .full ∙ ap not b in
           let p : r′ .at ≡ e + 1 = m .place ∙ ap (λ (c : Bool). cond c (e + 1) (r .at)) b in
           let s : progressOf (r′ .position) w′ out′ ≡ afterLine P l = m .is ∙ ap (λ (c : Bool). cond c (afterLine P l) (unwritten P l)) b in
-          let g = begins-short (line-begins P l) in
+          let g = prefix-length (line-begins P l) in
           let c = ap (λ (v : Progress). v .lines) s ∙ after-count P l in
           let d = drop (r .at) block in
           let n : e + 1 - r .at ≡ suc (lineLength d) = omega (arith, there .is) in

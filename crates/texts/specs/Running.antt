@@ -4,6 +4,7 @@ use mathlib.Core.Bool.{Bool, cond}
 use mathlib.Core.List.{List, [], _∷_, _++_}
 use Prim.Native.Nat.{ℕ}
 use lib.ListN.{length, take, drop}
+use Rattle.basics.specs.Prefix.{Prefix}
 use lib.Dec.{leb}
 use Rattle.session.specs.Texts.{Lines, linesOf, Progress, afterLine, afterLines, afterRest, closing, beginning, textAnswers}
 use Rattle.texts.specs.declared.Ran.{Ran}
@@ -63,11 +64,6 @@ pub record Fills (f : Filled) (out : List ℕ) (r : Ran) (out′ : List ℕ) : T
 
 -- ===== Answers that have no room =====
 
--- y begins with x
-pub record Begins (x y : List ℕ) : Type 0 where
-  pub more : List ℕ
-  pub is : y ≡ x ++ more
-
 -- how far a text is read: so many lines, or all and the rest behind them
 pub data Reached (p : Progress) (ls : List (List ℕ)) (s : List ℕ) (q : Progress) : Type 0 where
   after : (k : ℕ) → q ≡ afterLines p (take k ls) → Reached p ls s q
@@ -79,4 +75,4 @@ pub record RunStops (s out : List ℕ) (r : Ran) (out′ : List ℕ) : Type 0 wh
   pub answer : r ≡ Full (length (progress .bytes)) (progress .lines)
   pub result : out′ ≡ inFront (progress .bytes) out
   pub reached : Reached beginning (linesOf s .whole) (linesOf s .rest) progress
-  pub begins : Begins (progress .bytes) (textAnswers s)
+  pub begins : Prefix (progress .bytes) (textAnswers s)

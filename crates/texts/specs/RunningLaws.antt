@@ -1,50 +1,41 @@
 -- Laws of texts answered in a buffer: with room for all answers they are the answers of the text, otherwise they begin them.
-use mathlib.Core.Path.{_≡_, refl, sym, ap, _∙_}
+use mathlib.Core.Path.{_≡_, refl, ap, _∙_}
 use mathlib.Core.Bool.{Bool, true, false, cond}
-use mathlib.Core.List.{List, [], _∷_, _++_, append-assoc, append-nil}
+use mathlib.Core.List.{List, [], _∷_}
 use Prim.Native.Nat.{ℕ, suc, _≤_, _<_}
 use native.Mathlib.Omega.{arith}
 use native.Mathlib.Decide.{decLt}
 use borrow.Author.Tests.{le-leb, lt-leb}
-use lib.ListN.{length, length-append}
+use lib.ListN.{length}
+use Rattle.basics.specs.Prefix.{Prefix, prefix-refl, prefix-trans, prefix-length}
 use Rattle.session.specs.Texts.{Progress, afterLine, afterLines, afterRest, closing, beginning, linesOf, textAnswers}
 use Rattle.texts.specs.declared.Ran.{Ran}
 use Rattle.texts.specs.declared.Ran.the-variants.{Done}
-use Rattle.texts.specs.Running.{Filled, fits, stopped, allBytes, fillClosing, fillRest, fillLines, filled, inFront, Fills, Begins, Reached, after, behind, RunStops}
-
-begins-all : (x : List ℕ) → Begins x x
-begins-all x = record { more = []; is = sym (append-nil x) }
-
-begins-trans : {x y z : List ℕ} → Begins x y → Begins y z → Begins x z
-begins-trans {x} {y} {z} p q =
-    record { more = p .more ++ q .more; is = q .is ∙ ap (λ (w : List ℕ). w ++ q .more) (p .is) ∙ append-assoc x (p .more) (q .more) }
-
-pub begins-short : {x y : List ℕ} → Begins x y → length x ≤ length y
-begins-short {x} p = omega (arith, ap length (p .is), length-append x (p .more))
+use Rattle.texts.specs.Running.{Filled, fits, stopped, allBytes, fillClosing, fillRest, fillLines, filled, inFront, Fills, Reached, after, behind, RunStops}
 
 -- answers are only added
-pub line-begins : (p : Progress) (l : List ℕ) → Begins (p .bytes) (afterLine p l .bytes)
+pub line-begins : (p : Progress) (l : List ℕ) → Prefix (p .bytes) (afterLine p l .bytes)
 unfolding afterLine
 line-begins p l = record { more = _; is = refl }
 
-rest-begins : (p : Progress) (s : List ℕ) → Begins (p .bytes) (afterRest p s .bytes)
+rest-begins : (p : Progress) (s : List ℕ) → Prefix (p .bytes) (afterRest p s .bytes)
 unfolding afterRest
-rest-begins p [] = begins-all (p .bytes)
+rest-begins p [] = prefix-refl (p .bytes)
 rest-begins p (b ∷ s) = record { more = _; is = refl }
 
-closing-begins : (p : Progress) → Begins (p .bytes) (allBytes p)
+closing-begins : (p : Progress) → Prefix (p .bytes) (allBytes p)
 closing-begins p = record { more = closing (p .session .part) (p .met); is = refl }
 
 abbrev whole : Progress → List (List ℕ) → List ℕ → List ℕ
 whole p ls s = allBytes (afterRest (afterLines p ls) s)
 
-whole-rest : (p : Progress) (s : List ℕ) → Begins (afterRest p s .bytes) (allBytes (afterRest p s))
+whole-rest : (p : Progress) (s : List ℕ) → Prefix (afterRest p s .bytes) (allBytes (afterRest p s))
 whole-rest p s = closing-begins (afterRest p s)
 
-whole-begins : (p : Progress) (ls : List (List ℕ)) (s : List ℕ) → Begins (p .bytes) (whole p ls s)
+whole-begins : (p : Progress) (ls : List (List ℕ)) (s : List ℕ) → Prefix (p .bytes) (whole p ls s)
 unfolding afterLines
-whole-begins p [] s = begins-trans (rest-begins p s) (whole-rest p s)
-whole-begins p (l ∷ ls) s = begins-trans (line-begins p l) (whole-begins (afterLine p l) ls s)
+whole-begins p [] s = prefix-trans (rest-begins p s) (whole-rest p s)
+whole-begins p (l ∷ ls) s = prefix-trans (line-begins p l) (whole-begins (afterLine p l) ls s)
 
 -- all answers have room
 fill-all : (room : ℕ) (p : Progress) (ls : List (List ℕ)) (s : List ℕ) → length (whole p ls s) ≤ room
@@ -52,11 +43,11 @@ fill-all : (room : ℕ) (p : Progress) (ls : List (List ℕ)) (s : List ℕ) →
 unfolding fillLines fillRest fillClosing afterLines
 fill-all room p [] s h =
     rw (
-      le-leb (length (afterRest p s .bytes)) room (omega (arith, begins-short (whole-rest p s))),
+      le-leb (length (afterRest p s .bytes)) room (omega (arith, prefix-length (whole-rest p s))),
       le-leb (length (whole p [] s)) room h,
     )
 fill-all room p (l ∷ ls) s h =
-    rw (le-leb (length (afterLine p l .bytes)) room (omega (arith, begins-short (whole-begins (afterLine p l) ls s))))
+    rw (le-leb (length (afterLine p l .bytes)) room (omega (arith, prefix-length (whole-begins (afterLine p l) ls s))))
     (fill-all room (afterLine p l) ls s h)
 
 reached-more : {p q : Progress} {l : List ℕ} {ls : List (List ℕ)} {s : List ℕ} → Reached (afterLine p l) ls s q → Reached p (l ∷ ls) s q
@@ -69,7 +60,7 @@ pub record Stops (room : ℕ) (p : Progress) (ls : List (List ℕ)) (s : List �
   pub progress : Progress
   pub is : x ≡ stopped progress
   pub reached : Reached p ls s progress
-  pub begins : Begins (progress .bytes) (whole p ls s)
+  pub begins : Prefix (progress .bytes) (whole p ls s)
   pub within : length (progress .bytes) ≤ room
 
 fill-some : (room : ℕ) (p : Progress) (ls : List (List ℕ)) (s : List ℕ) → length (p .bytes) ≤ room → room < length (whole p ls s)
@@ -125,7 +116,7 @@ unfolding fillClosing
 closing-grows room p = go (fits room (allBytes p))
   where
     go : (b : Bool) → length (p .bytes) ≤ length (cond b (record { bytes = allBytes p; answer = Done (length (allBytes p)) }) (stopped p) .bytes)
-    go true = begins-short (closing-begins p)
+    go true = prefix-length (closing-begins p)
     go false = omega arith
 
 pub rest-grows : (room : ℕ) (p : Progress) (s : List ℕ) → length (p .bytes) ≤ length (fillRest room p s .bytes)
@@ -133,7 +124,7 @@ unfolding fillRest
 rest-grows room p s = go (fits room (afterRest p s .bytes))
   where
     go : (b : Bool) → length (p .bytes) ≤ length (cond b (fillClosing room (afterRest p s)) (stopped p) .bytes)
-    go true = omega (arith, begins-short (rest-begins p s), closing-grows room (afterRest p s))
+    go true = omega (arith, prefix-length (rest-begins p s), closing-grows room (afterRest p s))
     go false = omega arith
 
 module _ (s out : List ℕ) {out′ : List ℕ} {r : Ran} (x : Fills (filled (length out) s) out r out′) where

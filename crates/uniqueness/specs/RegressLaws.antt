@@ -21,13 +21,14 @@ use Rattle.diagram.specs.Listing.{diagramOf, Good}
 use Rattle.diagram.specs.Listings.{is-listing-good}
 use Rattle.apply.specs.GoodLaws.{fine-every}
 use Rattle.state.specs.State.{State, atomOf, holds, Fits}
+use Rattle.state.specs.Next.{next}
 use Rattle.regression.specs.declared.Regressed.the-variants.{Done}
 use Rattle.regression.specs.Regression.{argument, Truths, truthOf, regressed}
 use Rattle.regression.specs.RegressionLaws.{regressed-is}
 use Rattle.regression.specs.Result.{truthGiven, truthDiagram, regressedDiagram}
 use Rattle.regression.specs.ResultLaws.{eval-replaced, eval-regressed, good-regressed}
-use Rattle.regression.specs.Next.{next, meanings}
-use Rattle.regression.specs.NextLaws.{truth-value}
+use Rattle.regression.specs.Tells.{meanings}
+use Rattle.regression.specs.TellsLaws.{truth-value}
 use Rattle.regression.specs.Parameters.{Labels, GoodTruths}
 use Rattle.regression.specs.RegressCall.{truthsOf, areListings, regressedAs, writtenAs, regressOutcome, regressAnswer, regressResult}
 use Rattle.regression.specs.RegressCallLaws.{accepted-checks, truths-passed}

@@ -14,7 +14,7 @@ use Rattle.contradict.specs.declared.Led.the-variants.{Only, Others, Many}
 use Rattle.mdp.specs.Model.{mostActions}
 use Rattle.model.specs.declared.Head.{Head}
 use Rattle.model.specs.Layout.{variantWords, actionWords, tableWords, LaidVariant, LaidAction}
-use Rattle.steps.specs.Steps.{Begins}
+use Rattle.steps.specs.Steps.{BufferListing}
 use Rattle.weights.specs.declared.Weighed.{Weighed}
 use Rattle.weights.specs.declared.Weighed.the-variants.{Done, Refused}
 
@@ -34,7 +34,7 @@ judgedAs Only = Done
 pub record AddTask (ar listings table : List ℕ) (place : ℕ) (sum : List ℕ) (n : ℕ) (work : List ℕ) : Type 0 where
   pub laid : LaidVariant ar listings table place
   pub inside : place + variantWords ≤ length table
-  pub begins : Begins ar n sum
+  pub begins : BufferListing ar n sum
   pub sum-room : resultWords ≤ length sum
   pub work-room : spaceWords ≤ length work
 

@@ -12,12 +12,11 @@ use lib.ListN.{length, getD, set, take, length-set}
 use lib.Seq.{getD-set-same, getD-set-other, take-suc, take-suc-set, length-take-le}
 use lib.Dec.{eqb}
 use Rattle.basics.specs.Tests.{Flag, isTrue, isFalse, flag, Cmp, cmp, below, equal, above, Either, one, other, either}
-use Rattle.basics.specs.Members.{mem, NoDup, nodup-le, clash}
+use Rattle.basics.specs.Members.{mem, NoDup, nodup-le, clash, mem-snoc, append-one, snoc-cases, nodup-snoc}
 use Rattle.label.specs.Limits.{leafMark}
 use Rattle.diagram.specs.Sizes.{spaceRows}
 use Rattle.diagram.specs.Words.{labelAt, highAt, lowAt, upTo, finish}
 use Rattle.diagram.specs.WordLaws.{number-test, mem-upTo, length-upTo, finish-old, finish-leaf, finish-branch}
-use Rattle.apply.specs.Snoc.{mem-snoc, mem-more, snoc-cases, nodup-snoc}
 use Rattle.write.specs.Numbering.{Marked, Unmarked, Unnumbered, Placeable, Placed, Downward, Numbered}
 
 -- the first n of a list, by place
@@ -39,7 +38,7 @@ of-place xs zero k i h l e = absurd (omega arith)
 of-place xs (suc n) k i h l e = rw (take-suc xs n 0 h) (go (cmp i n) (of-place xs n k i (omega arith)))
   where
     go : Cmp i n → (i < n → getD xs i 0 ≡ k → mem eqb k (take n xs) ≡ true) → mem eqb k (take n xs ++ (getD xs n 0 ∷ [])) ≡ true
-    go (below q) ih = mem-more eqb k (getD xs n 0) (take n xs) (ih q e)
+    go (below q) ih = append-one eqb k (take n xs) (getD xs n 0 ∷ []) (ih q e)
     go (equal q) ih = rw (← e, q) (mem-snoc eqb number-test (getD xs n 0) (take n xs))
     go (above q) ih = absurd (omega arith)
 

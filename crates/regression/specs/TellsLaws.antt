@@ -21,9 +21,10 @@ use Rattle.apply.specs.GoodLaws.{fine-every}
 use Rattle.state.specs.Highest.{Bound}
 use Rattle.state.specs.State.{Atomic, atom, atomOf, meaning, State, Good, holds, value, fixed, Fits}
 use Rattle.state.specs.Terms.{Each, args, Terms}
-use Rattle.state.specs.ValueLaws.{low-lt, low-ge, by-low, Terms-mono}
+use Rattle.state.specs.Next.{inner, factAfter, next}
+use Rattle.state.specs.ValueLaws.{low-lt, low-ge, by-low, Terms-mono, fits-zero}
 use Rattle.minimum.specs.Number.{Number}
-pub use Rattle.minimum.specs.OccurLaws.{terms-occur, occur-terms}
+use Rattle.minimum.specs.OccurLaws.{terms-occur, occur-terms}
 use Rattle.minimum.specs.NextLaws.{number-next}
 use Rattle.regression.specs.StepLaws.{eval-most}
 use Rattle.regression.specs.Regression.{argument, Truths, truthOf, regressed}
@@ -32,13 +33,9 @@ use Rattle.regression.specs.Result.{replaced, truthGiven, truthDiagram, 
 use Rattle.regression.specs.Parameters.{Allowed, Within, Labels, GoodTruth, GoodTruths, WithinTruths}
 use Rattle.regression.specs.ResultLaws.{value-meaning, eval-rebuilt, value-replaced, label-terms, argument-low, argument-high}
 use Rattle.regression.specs.ResultLaws.{argument-terms, bit, terms-regressed, good-regressed, label-predicate}
-use Rattle.regression.specs.Next.{inner, factAfter, next, meanings, Tells}
+use Rattle.regression.specs.Tells.{meanings, Tells}
 
 -- the objects of the terms that replace the arguments
-pub fits-zero : {s : State} {os : List ℕ} {θ : ℕ → ℕ} → Fits s os θ → θ 0 ≡ s .constant 0
-unfolding fixed
-fits-zero {s} {os} f = f .low 0 (omega arith)
-
 pub argument-inner : (s : State) (os ts : List ℕ) (θ : ℕ → ℕ) → Fits s os θ → (λ t. θ (argument ts t)) ≡ inner s os (map θ ts)
 unfolding inner
 argument-inner s os ts θ f = fun-ext (λ t. by-low (θ (argument ts t) ≡ inner s os (map θ ts) t) firstVariable t
@@ -118,10 +115,6 @@ regressed-tells ar truths d g h = accepted-mono (regressed-is ar truths d) (λ r
   within = λ c v w. within-regressed c ar (h .arities) truths g v d (fine-every ar d (h .fine)) w;
   variables = variables-regressed ar (h .arities) truths g d (fine-every ar d (h .fine));
 }))
-
-pub next-good : (s : State) (os : List ℕ) (becomes : ℕ → Option (Tree Atomic)) → Good s → Good (next s os becomes)
-unfolding next
-next-good s os becomes g = record { some = g .some; placed = g .placed }
 
 -- the result's number in the state, with the tuple os for the parameters, is the old diagram's in the next state: no parameter stands in that
 pub regressed-number : (ar : List ℕ) (truths : Truths) (d r : Diagram) → Tells ar truths d r → Within 0 (meaning ar d) → (s : State) → Good s → (os : List ℕ) → Bound s os
