@@ -1,11 +1,10 @@
 -- Laws of the loop over the actions, of its first move, and of the answer, in the words of the code.
 use mathlib.Core.Path.{_≡_, refl, sym, ap, subst, _∙_}
-use mathlib.Core.Logic.{_⊎_, inl, inr}
 use mathlib.Core.Bool.{true, cond}
-use mathlib.Core.List.{List, [], _∷_, _++_}
+use mathlib.Core.List.{List, [], _++_}
 use Prim.Native.Nat.{ℕ, zero, suc, _+_, _*_, _≤_, _<_}
 use native.Mathlib.Omega.{arith}
-use native.Mathlib.Nat.{zero-add, eq-or-lt-of-le, le-of-suc-le-suc}
+use native.Mathlib.Nat.{zero-add}
 use mir.Syntax.{w8}
 use mir.Val.{Fits}
 use lib.ListN.{length, getD, take, drop, replicate, length-replicate}
@@ -31,6 +30,7 @@ use Rattle.steps.specs.declared.Step.{Step}
 use Rattle.steps.specs.declared.Step.the-variants.{Rows, Refused as Stopped}
 use Rattle.steps.specs.Steps.{Given}
 use Rattle.steps.specs.GivenLaws.{step-refused}
+use Rattle.planner.specs.PartLaws.{many-every}
 use Rattle.planner.specs.Tasks.{ValueTask, ActionTask}
 use Rattle.best.specs.Moves.{move, actionAt as modelAction, firstMove}
 use Rattle.best.specs.Best.{Rated, rated, bindingsBest, movesBest, bestAnswer}
@@ -44,21 +44,6 @@ use Rattle.best_move.specs.Inside.{digits, rateOf, ledAs, Leading, Rates
 use Rattle.best_move.proofs.DigitLaws.{zeros, length-digits, digits-zero, digits-read, digit-less}
 use Rattle.best_move.proofs.FoldLaws.{fold-on, fold-refused}
 use Rattle.best_move.proofs.LeadLaws.{rates-to, rates-refused, rates-same, rated-to, rated-refused, moves-more}
-
--- ===== Lists by number =====
-
-every-last : {A : Type 0} (P : A → Type 0) (l : List A) (a : A) → Every P (l ++ (a ∷ [])) → Every P l × P a
-every-last P [] a h = (tt, h .0)
-every-last P (b ∷ l) a h = let r = every-last P l a (h .1) in ((h .0, r .0), r .1)
-
-many-every : {A : Type 0} (P : A → Type 0) (f : ℕ → A) (n v : ℕ) → Every P (many f n) → v < n → P (f v)
-unfolding many
-many-every P f zero v h k = absurd (omega arith)
-many-every {A} P f (suc n) v h k = let r = every-last P (many f n) (f n) h in go (r .1) (many-every P f n v (r .0)) (eq-or-lt-of-le (le-of-suc-le-suc k))
-  where
-    go : P (f n) → (v < n → P (f v)) → (v ≡ n) ⊎ (v < n) → P (f v)
-    go p rest (inl e) = subst (λ (x : ℕ). P (f x)) (sym e) p
-    go p rest (inr l) = rest l
 
 -- ===== A state =====
 

@@ -342,8 +342,12 @@ loop-start x = record {
 
 module _ {op : Operation} {ws₀ s₀ h₀ l₀ : List ℕ} {count n : ℕ} {ws s h l : List ℕ} {rows last k : ℕ} (able : Formable op ws₀ n)
     (inv : FormLoop op ws₀ s₀ h₀ l₀ count n ws s h l rows last k) where
-  pub loop-room : n * 5 ≤ length ws
+  loop-room : n * 5 ≤ length ws
   loop-room = rw (inv .plan-length) (able .sound .room)
+
+  -- the place of entry k's last word
+  pub loop-place : k < n → k * 5 + 5 ≤ length ws
+  loop-place less = omega (arith, loop-room)
 
   pub loop-formable : k < n → FormableAt op ws n k rows
   loop-formable less = formable-at able (inv .forming) less loop-room

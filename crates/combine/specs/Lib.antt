@@ -6,5 +6,6 @@ pub mod ResultLaws
 pub mod Paired
 pub mod PairedLaws
 pub mod Joining
+pub mod Endings
 pub mod JoiningLaws
 pub mod Calls

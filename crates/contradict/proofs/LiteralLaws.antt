@@ -18,12 +18,12 @@ use Rattle.label.specs.declared.Test.{Test}
 use Rattle.label.specs.declared.Test.the-variants.{Always, Is}
 use Rattle.label.specs.ArityLaws.{mem-at}
 use Rattle.paths.specs.Paths.{Literal}
-use Rattle.paths.specs.Routes.{AllInRange}
+use Rattle.paths.specs.Routes.{AllInRange, literalAt, literalsIn}
 use Rattle.paths.specs.PathLaws.{label-range, mem-unmap}
 use Rattle.contradiction.specs.Contradiction.{someLiteral, asked, asksFor, affirms, isSaid, clashes, clashUnder, contradicts, representative}
 use Rattle.contradiction.specs.JoinLaws.{TermsBelow, terms-labels, representative-below}
 use Rattle.contradiction.specs.AgreeLaws.{clash-agree}
-use Rattle.contradict.specs.Representing.{literalAt, literalsIn, Represented, Labelled, Readable}
+use Rattle.contradict.specs.Representing.{Represented, Labelled, Readable}
 use Rattle.contradict.proofs.TableLaws.{label-at, sign-odd, literals-drop, literals-none}
 
 -- ===== A loop over literals =====

@@ -21,21 +21,17 @@ use Rattle.diagram.specs.RowDiagrams.{tree-fine}
 use Rattle.diagram.specs.DiagramOfListing.{diagram-is, valid-rows}
 use Rattle.diagram.specs.ListingValid.{listing-is-valid}
 use Rattle.paths.specs.Paths.{Literal, Path, paths, literals, mostPaths}
-use Rattle.paths.specs.Routes.{codeOf, codes, pathAt, Rows, Counted, At, Entered}
-use Rattle.paths.specs.CodeLaws.{half, literals-codes}
+use Rattle.paths.specs.Routes.{codeOf, codes, pathAt, Rows, Counted, At, Entered, literalsIn}
+use Rattle.paths.specs.CodeLaws.{half, codes-are}
 use Rattle.paths.specs.PathLaws.{mem-unmap, path-in, paths-are, listing-rows}
 use Rattle.cutting.specs.Searchable.{PathLabels}
 use Rattle.cutting.specs.CoverLaws.{path-labels, every-path-in, every-path-out}
 use Rattle.contradiction.specs.Contradiction.{contradicts, passes, leadsTo}
 use Rattle.contradict.specs.declared.Led.the-variants.{Only, Others, Many}
-use Rattle.contradict.specs.Representing.{literalAt, literalsIn, Labelled}
+use Rattle.contradict.specs.Representing.{Labelled}
 use Rattle.contradict.specs.Leading.{leadAnswer, Route, Routed}
 
 -- ===== Literals and their numbers =====
-
-codes-are : (p : Path) → literalsIn (codes p) ≡ literals p
-unfolding literalsIn literalAt codes
-codes-are p = literals-codes (literals p)
 
 code-labels : (ar : List ℕ) (ls : List Literal) → ((l : Literal) → List·Memᴰ l ls → isLabel ar (l .label) ≡ true)
     → (j : ℕ) → j < length (map codeOf ls) → isLabel ar (getD (map codeOf ls) j 0 / 2) ≡ true

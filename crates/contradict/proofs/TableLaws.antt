@@ -15,12 +15,12 @@ use Rattle.label.specs.Renamings.{mapOf}
 use Rattle.label.specs.ArityLaws.{arity-two}
 use Rattle.label.specs.declared.Atom.{Atom}
 use Rattle.paths.specs.Paths.{Literal}
-use Rattle.paths.specs.Routes.{InRange}
+use Rattle.paths.specs.Routes.{InRange, literalAt, literalsIn}
 use Rattle.paths.specs.PathLaws.{range-terms}
 use Rattle.contradiction.specs.Contradiction.{Equates, joining, representative}
 use Rattle.contradiction.specs.JoinLaws.{literal-names, literal-stays, representative-more}
 use Rattle.contradiction.specs.AgreeLaws.{join-agree}
-use Rattle.contradict.specs.Representing.{literalAt, literalsIn, Own, Merged, Taken, Represented}
+use Rattle.contradict.specs.Representing.{Own, Merged, Taken, Represented}
 
 -- `exchanged`
 pub exchanged-here : (x y z : ℕ) → x ≡ y → z ≡ cond (eqb x y) z x

@@ -1,24 +1,15 @@
 -- Literals as numbers, and the table of representatives that the code makes.
 use mathlib.Core.Path.{_≡_}
 use mathlib.Core.Bool.{true}
-use mathlib.Core.List.{List, map}
-use Prim.Native.Nat.{ℕ, _/_, _%_, _≤_, _<_}
+use mathlib.Core.List.{List}
+use Prim.Native.Nat.{ℕ, _/_, _≤_, _<_}
 use lib.ListN.{length, getD, drop}
-use lib.Dec.{eqb}
 use Rattle.label.specs.Limits.{termEnd}
 use Rattle.label.specs.Labels.{areArities, isLabel}
 use Rattle.label.specs.Renamings.{mapOf}
 use Rattle.label.specs.Callers.{TermMap}
-use Rattle.paths.specs.Paths.{Literal}
+use Rattle.paths.specs.Routes.{literalAt, literalsIn}
 use Rattle.contradiction.specs.Contradiction.{joining, joinLiteral, representative}
-
--- the literal that a number stands for: its label twice, and one more where it is true
-unfoldable pub literalAt : ℕ → Literal
-literalAt x = record { label = x / 2; sign = eqb (x % 2) 1 }
-
-unfoldable pub literalsIn : List ℕ → List Literal
-unfolding literalAt
-literalsIn xs = map literalAt xs
 
 -- the first n terms are their own representatives
 pub record Own (table₀ table : List ℕ) (n : ℕ) : Type 0 where

@@ -15,9 +15,9 @@ ghost use Rattle.diagram.specs.Words.{isListing};
 ghost use Rattle.diagram.specs.Listing.{diagramOf};
 ghost use Rattle.diagram.specs.Validity.{tree};
 ghost use Rattle.paths.specs.Paths.{literals};
-ghost use Rattle.paths.specs.Routes.{InRange, AllInRange, pathAt};
+ghost use Rattle.paths.specs.Routes.{InRange, AllInRange, pathAt, literalAt, literalsIn};
 ghost use Rattle.contradiction.specs.Contradiction.{someLiteral, affirms, clashes, clashUnder, contradicts, passes, leadsTo};
-ghost use Rattle.contradict.specs.Representing.{literalAt, literalsIn, Own, Merged, Taken, Represented, Labelled, Readable};
+ghost use Rattle.contradict.specs.Representing.{Own, Merged, Taken, Represented, Labelled, Readable};
 ghost use Rattle.contradict.specs.Leading.{Routed, Route, leadAnswer};
 
 // A word for each term.

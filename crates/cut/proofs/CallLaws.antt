@@ -6,13 +6,12 @@ use Prim.Native.Nat.{ℕ, zero, suc, pred, _-_, _/_, _≤_, _<_, min}
 use native.Mathlib.Omega.{arith}
 use lib.ListN.{length, getD, replicate, length-replicate, length-map}
 use lib.Dec.{eqb, ltb}
-use borrow.Author.Tests.{lt-ltb, le-ltb}
+use borrow.Author.Tests.{lt-ltb, le-ltb, not-true, not-false}
 use Rattle.basics.specs.Tests.{or-one, or-other}
 use Rattle.refusal.specs.declared.Refusal.{Refusal}
 use Rattle.refusal.specs.declared.Refusal.the-variants.{Listing, Buffer, Paths, Minimum, Nothing as NoEdge}
 use Rattle.listing.specs.Used.{Used, markedMinimums}
 use Rattle.listing.specs.UsedLaws.{marked-plain}
-use Rattle.listing.proofs.RowLaws.{not-taken, not-left}
 use Rattle.diagram.specs.Sizes.{mostRows, resultWords, spaceWords}
 use Rattle.diagram.specs.Diagram.{Diagram}
 use Rattle.diagram.specs.Rows.{rows}
@@ -102,10 +101,10 @@ plain-is {ar} {d} {marks} u e = e ∙ marked-plain ar d marks u
 -- `cut_checked`
 module _ {ar ws out work : List ℕ} (g : Cuttable ar ws out work) {b : Bool} (e : b ≡ isPlain ar (diagramOf ws)) where
   pub cut-minimum : not b ≡ true → Answers ar ws out (Refused Minimum) out
-  cut-minimum f = (sym (minimum-first ar (diagramOf ws) (sym e ∙ not-taken b f)), sym (buffer-refused ar ws out Minimum))
+  cut-minimum f = (sym (minimum-first ar (diagramOf ws) (sym e ∙ not-true b f)), sym (buffer-refused ar ws out Minimum))
 
   pub cut-choosable : not b ≡ false → Choosable ar ws out work
-  cut-choosable f = record { call = g; plain = sym e ∙ not-left b f }
+  cut-choosable f = record { call = g; plain = sym e ∙ not-false b f }
 
 -- `cut_plain`
 module _ {ar ws out work : List ℕ} (g : Choosable ar ws out work) where
@@ -221,11 +220,11 @@ module _ (ar ws out work : List ℕ) where
 
   module _ {b : Bool} (e : b ≡ isListing ar ws) where
     pub call-listing : not b ≡ true → Promised ar ws out work (Refused Listing) out
-    call-listing f = refused Listing (call-none (sym e ∙ not-taken b f))
+    call-listing f = refused Listing (call-none (sym e ∙ not-true b f))
 
     module _ (f : not b ≡ false) where
       listed : isListing ar ws ≡ true
-      listed = sym e ∙ not-left b f
+      listed = sym e ∙ not-false b f
 
       pub call-out : length out < resultWords → Promised ar ws out work (Refused Buffer) out
       call-out h = refused Buffer (call-small listed (or-one _ _ (lt-ltb (length out) resultWords h)))

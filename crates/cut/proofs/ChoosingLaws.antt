@@ -10,13 +10,12 @@ use native.Mathlib.Nat.{zero-add, suc-add}
 use lib.ListN.{length, getD, set, replicate, length-set, length-replicate}
 use lib.Seq.{getD-set-same, getD-set-other}
 use lib.Dec.{eqb}
-use borrow.Author.Tests.{eqb-true, eqb-false, eq-eqb, ne-eqb, le-leb, lt-leb}
+use borrow.Author.Tests.{eqb-true, eqb-false, eq-eqb, ne-eqb, le-leb, lt-leb, not-true, not-false}
 use Rattle.basics.specs.Tests.{Flag, isTrue, isFalse, flag, Cmp, cmp, below, equal, above}
 use Rattle.label.specs.Limits.{firstMinimum, leafMark}
 use Rattle.diagram.specs.Diagram.{Diagram, leaf, same}
 use Rattle.diagram.specs.Words.{labelAt, highAt}
 use Rattle.diagram.specs.Validity.{tree}
-use Rattle.listing.proofs.RowLaws.{not-taken, not-left}
 use Rattle.cutting.specs.Cut.{covers, mayGo}
 use Rattle.paths.specs.Paths.{mostPaths}
 use Rattle.paths.specs.Routes.{Rows, Sided}
@@ -237,14 +236,14 @@ module _ (ar ws : List ℕ) (n : ℕ) (sides : List ℕ) (side m : ℕ) where
 
   pub free-on : (p : ℕ) {r : Bool} {memo′ : List ℕ} → freeBelow ar ws n sides side m p ≡ true → Tested ar ws n (isFreeOn ar ws n sides side m p) r memo′ → not r ≡ false
       → freeBelow ar ws n sides side m (p + 1) ≡ true
-  free-on p b t e = rw (add-one, free-more p, b) (sym (t .answer) ∙ not-left _ e)
+  free-on p b t e = rw (add-one, free-more p, b) (sym (t .answer) ∙ not-false _ e)
 
   free-stop : {p : ℕ} {r : Bool} {memo′ : List ℕ} → p < m → Tested ar ws n (isFreeOn ar ws n sides side m p) r memo′ → not r ≡ true
       → freeBelow ar ws n sides side m m ≡ false
   free-stop {p} h t e =
       let u : m ≡ (m - suc p) + suc p = omega arith in
       ap (freeBelow ar ws n sides side m) u
-      ∙ free-stops (suc p) (m - suc p) (free-more p ∙ ap (λ (b : Bool). freeBelow ar ws n sides side m p && b) (sym (t .answer) ∙ not-taken _ e) ∙ and-false (freeBelow ar ws n sides side m p))
+      ∙ free-stops (suc p) (m - suc p) (free-more p ∙ ap (λ (b : Bool). freeBelow ar ws n sides side m p && b) (sym (t .answer) ∙ not-true _ e) ∙ and-false (freeBelow ar ws n sides side m p))
 
   free-all : {p : ℕ} → freeBelow ar ws n sides side m p ≡ true → p ≤ m → m ≤ p → freeBelow ar ws n sides side m m ≡ true
   free-all {p} b h k = let e : p ≡ m = omega arith in ap (freeBelow ar ws n sides side m) (sym e) ∙ b

@@ -22,6 +22,7 @@ use Rattle.events.specs.declared.Next.{Next}
 use Rattle.events.specs.Events.{firstWord}
 use Rattle.events.specs.Front.{nextAt}
 use Rattle.events.specs.Contents.{numberIn}
+use Rattle.answers.specs.declared.Answer.{Answer}
 use Rattle.answers.specs.declared.Answer.the-variants as A
 use Rattle.text.specs.declared.Kind.the-variants as K
 use Rattle.session.specs.Session.{Session, refuseIf}
@@ -130,31 +131,32 @@ module _ (s : List ℕ) (number : ℕ) (n : Numbers) (ar state value : List ℕ)
         let d = is-listing-diagram ar (take (n .held .rows * 3) value) (run-holding refl r .listing) in
         subst (λ (o : Outcome (List Entry)). Counts o q table) (reads n (memoryOf names ar listings tables state value) objects d) c
 
-    lines-answers : {m : ℕ} → q ≡ Lines m
-        → Answers K.Count s number n (memoryOf names ar listings tables state value) (record { numbers = n; answer = A.Count objects m })
-        (memoryOf names ar listings tables state value)
-    lines-answers f =
+    answers : {a : Answer}
+        → a ≡ countSays (sessionOf n (memoryOf names ar listings tables state value)) number objects (read (sessionOf n (memoryOf names ar listings tables state value)) objects) .answer
+        → Answers K.Count s number n (memoryOf names ar listings tables state value) (record { numbers = n; answer = a }) (memoryOf names ar listings tables state value)
+    answers f =
         let σ = sessionOf n (memoryOf names ar listings tables state value) in
         record {
-          answer = lines-says σ number objects (read σ objects) (sym (counted .answer) ∙ f) ∙ sym (ap (λ (y : Reply). y .answer) done-is);
+          answer = f ∙ sym (ap (λ (y : Reply). y .answer) done-is);
           session = same-session σ number objects (read σ objects) ∙ sym (ap (λ (y : Reply). y .session) done-is);
           stored = r .stored;
           indexed = r .indexed;
           carried = carried-same n (memoryOf names ar listings tables state value);
         }
 
+    lines-answers : {m : ℕ} → q ≡ Lines m
+        → Answers K.Count s number n (memoryOf names ar listings tables state value) (record { numbers = n; answer = A.Count objects m })
+        (memoryOf names ar listings tables state value)
+    lines-answers f =
+        let σ = sessionOf n (memoryOf names ar listings tables state value) in
+        answers (lines-says σ number objects (read σ objects) (sym (counted .answer) ∙ f))
+
     refused-answers : {why : Refusal} → q ≡ Refused why
         → Answers K.Count s number n (memoryOf names ar listings tables state value) (record { numbers = n; answer = A.Refused why number })
         (memoryOf names ar listings tables state value)
     refused-answers f =
         let σ = sessionOf n (memoryOf names ar listings tables state value) in
-        record {
-          answer = refused-says σ number objects (read σ objects) (sym (counted .answer) ∙ f) ∙ sym (ap (λ (y : Reply). y .answer) done-is);
-          session = same-session σ number objects (read σ objects) ∙ sym (ap (λ (y : Reply). y .session) done-is);
-          stored = r .stored;
-          indexed = r .indexed;
-          carried = carried-same n (memoryOf names ar listings tables state value);
-        }
+        answers (refused-says σ number objects (read σ objects) (sym (counted .answer) ∙ f))
 
     shows : Shown (done (sessionOf n (memoryOf names ar listings tables state value)) number K.Count (wordsOf K.Count s)) table
     shows =

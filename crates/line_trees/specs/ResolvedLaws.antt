@@ -36,7 +36,7 @@ use Rattle.session.specs.Session.{Session, refuseIf}
 use Rattle.session.specs.Facts.{predicateOf}
 use Rattle.session.specs.ModelLines.{namesFor}
 use Rattle.line_trees.specs.TreeReading.{atomTerms, diagramTerms, withOne, variablesAfter, termNumber, termNumbers, atomTest, diagramWords}
-use Rattle.line_trees.specs.VariableLaws.{extends, number-exact, within-kept, met-numbered}
+use Rattle.line_trees.specs.VariableLaws.{Extends, extends, number-exact, within-kept, met-numbered}
 
 -- ===== Two answers that agree =====
 
@@ -210,6 +210,19 @@ reads-any σ ps us d = tracked σ Any ps vs (Meets vs) (record { each = each; co
     there true x y ws ts e f m = (f, m)
     there false x y ws ts e f m = absurd (let z : _≡_ {A = ℕ} 0 1 = cc in omega arith)
 
+    -- a variable of a kind: all those of the kind met before it, us those kept of them with it, later those of the line
+    one : (first : ℕ) (k : Key) (all us ks later : List Key) (ws : Met) (ts : List T.Term) → us ≡ kept (withOne all k) → ks ≡ later → Extends (withOne all k) later
+        → (isWithin vs ≡ true → length ks ≤ variableCount) → Meets vs ws ts
+        → Match (Same σ Any ps vs (Meets vs) ts) (ok (record { value = numberIn first us k; met = ws })) (refuseIf (not (isAmong k ks)) Unbound (ok (first + placeOf k ks)))
+    one first k all us ks later ws ts next whole more within m =
+        let x = met-numbered first all k later more in
+        there (isAmong k ks) (numberIn first us k) (first + placeOf k ks) ws ts (ap (isAmong k) whole ∙ x .among)
+        (λ few.
+        ap (λ (us : List Key). numberIn first us k) next
+        ∙ x .number (subst (λ (us : List Key). length us ≤ variableCount) whole (within few))
+        ∙ ap (λ (us : List Key). first + placeOf k us) (sym whole))
+        m
+
     each : (ws : Met) (t : T.Term) (ts : List T.Term) → Meets vs ws (t ∷ ts)
         → Match (Same σ Any ps vs (Meets vs) ts) (resolveTerm (names σ Any ps vs (Meets vs)) ws t) (termNumber σ ps vs t)
     each ws (term plain n) ts m = plain-same σ Any ps vs (Meets vs) n ts ws (record { all = m .all; keeps = m .keeps; whole = m .whole })
@@ -218,14 +231,8 @@ reads-any σ ps us d = tracked σ Any ps vs (Meets vs) (record { each = each; co
         let k : Key = keyOf n in
         let more : Met = record { variables = withOne (m .all .variables) k; minimums = m .all .minimums } in
         let next : met Any (ws .variables) k ≡ kept (more .variables) = ap (λ (us : Met). met Any (us .variables) k) (m .keeps) ∙ met-kept (m .all .variables) k in
-        let whole : vs .variables ≡ variablesAfter more ts .variables = ap (λ (us : Met). us .variables) (m .whole) in
-        let x = met-numbered firstVariable (m .all .variables) k (variablesAfter more ts .variables) (extends ts more .0) in
-        there (isAmong k (vs .variables)) (numberIn firstVariable (met Any (ws .variables) k) k) (firstVariable + placeOf k (vs .variables)) (variableMet Any ws k) ts
-        (ap (isAmong k) whole ∙ x .among)
-        (λ few.
-        ap (λ (us : List Key). numberIn firstVariable us k) next
-        ∙ x .number (subst (λ (us : List Key). length us ≤ variableCount) whole (variables-within vs few))
-        ∙ ap (λ (us : List Key). firstVariable + placeOf k us) (sym whole))
+        one firstVariable k (m .all .variables) (met Any (ws .variables) k) (vs .variables) (variablesAfter more ts .variables) (variableMet Any ws k) ts
+        next (ap (λ (us : Met). us .variables) (m .whole)) (extends ts more .0) (variables-within vs)
         (record {
           all = more;
           keeps = ap₂ (λ (us vs : List Key). record { variables = us; minimums = vs }) next (ap (λ (us : Met). us .minimums) (m .keeps));
@@ -235,14 +242,8 @@ reads-any σ ps us d = tracked σ Any ps vs (Meets vs) (record { each = each; co
         let k : Key = keyOf n in
         let more : Met = record { variables = m .all .variables; minimums = withOne (m .all .minimums) k } in
         let next : met Any (ws .minimums) k ≡ kept (more .minimums) = ap (λ (us : Met). met Any (us .minimums) k) (m .keeps) ∙ met-kept (m .all .minimums) k in
-        let whole : vs .minimums ≡ variablesAfter more ts .minimums = ap (λ (us : Met). us .minimums) (m .whole) in
-        let x = met-numbered firstMinimum (m .all .minimums) k (variablesAfter more ts .minimums) (extends ts more .1) in
-        there (isAmong k (vs .minimums)) (numberIn firstMinimum (met Any (ws .minimums) k) k) (firstMinimum + placeOf k (vs .minimums)) (minimumMet Any ws k) ts
-        (ap (isAmong k) whole ∙ x .among)
-        (λ few.
-        ap (λ (us : List Key). numberIn firstMinimum us k) next
-        ∙ x .number (subst (λ (us : List Key). length us ≤ minimumCount) whole (minimums-within vs few))
-        ∙ ap (λ (us : List Key). firstMinimum + placeOf k us) (sym whole))
+        one firstMinimum k (m .all .minimums) (met Any (ws .minimums) k) (vs .minimums) (variablesAfter more ts .minimums) (minimumMet Any ws k) ts
+        next (ap (λ (us : Met). us .minimums) (m .whole)) (extends ts more .1) (minimums-within vs)
         (record {
           all = more;
           keeps = ap₂ (λ (us vs : List Key). record { variables = us; minimums = vs }) (ap (λ (us : Met). us .variables) (m .keeps)) next;

@@ -8,6 +8,7 @@ use native.Mathlib.Omega.{arith}
 use native.Mathlib.Numerals.{add-one}
 use lib.ListN.{length, getD, length-append}
 use lib.Seq.{getD-at}
+use borrow.Author.Tests.{not-true, not-false}
 use Rattle.basics.specs.Tests.{Cmp, cmp, below, equal, above, Flag, isTrue, isFalse, flag}
 use Rattle.label.specs.Limits.{leafMark}
 use Rattle.label.specs.Labels.{areArities}
@@ -17,7 +18,6 @@ use Rattle.diagram.specs.WordLaws.{mem-upTo, not-upTo, length-upTo, getD-upTo, 
 use Rattle.diagram.specs.Validity.{ValidRow, a-leaf, a-branch, ValidRows, Valid}
 use Rattle.diagram.specs.ListingValid.{valid-is-listing, listing-is-valid}
 use Rattle.listing.specs.Check.{Decides, Downward, Off, Walked}
-use Rattle.listing.proofs.RowLaws.{not-taken, not-left}
 
 -- a row out of its place
 off-place : (b i : ℕ) → (b ≡ i → ⊥) → Off (upTo b ++ (i ∷ []))
@@ -125,7 +125,7 @@ module _ (ar ws : List ℕ) where
       go (isFalse e) = sym e
 
   pub check-arities : {b : Bool} → b ≡ areArities ar → not b ≡ true → false ≡ isListing ar ws
-  check-arities {b} d e = refused (λ v. let z : true ≡ false = sym (v .arities) ∙ sym d ∙ not-taken b e in let z′ : _≡_ {A = ℕ} 0 1 = cc in omega arith)
+  check-arities {b} d e = refused (λ v. let z : true ≡ false = sym (v .arities) ∙ sym d ∙ not-true b e in let z′ : _≡_ {A = ℕ} 0 1 = cc in omega arith)
 
   pub check-whole : (length ws / 3 * 3 ≡ length ws → ⊥) → false ≡ isListing ar ws
   check-whole h = refused (λ v. h (sym (v .whole)))
@@ -137,10 +137,10 @@ module _ (ar ws : List ℕ) where
   check-few h = refused (λ v. let s = v .few in omega arith)
 
   pub check-rows : {b : Bool} → Decides b (ValidRows ar ws (length ws / 3)) → not b ≡ true → false ≡ isListing ar ws
-  check-rows {b} d e = refused (λ v. d .no (not-taken b e) (record { each = v .each; apart = v .apart }))
+  check-rows {b} d e = refused (λ v. d .no (not-true b e) (record { each = v .each; apart = v .apart }))
 
   pub check-down : {b : Bool} → (length ws / 3 ≡ 0 → ⊥) → Decides b (ValidRows ar ws (length ws / 3)) → not b ≡ false → Downward ws (length ws / 3 - 1)
-  check-down {b} n d e = record { room = omega arith; children = λ k h q. go k q (d .yes (not-left b e) .each k (omega arith)) }
+  check-down {b} n d e = record { room = omega arith; children = λ k h q. go k q (d .yes (not-false b e) .each k (omega arith)) }
     where
       go : (k : ℕ) → labelAt ws k ≢ leafMark → ValidRow ar ws k → (highAt ws k < k) × (lowAt ws k < k)
       go k q (a-leaf r) = absurd (q (r .mark))
@@ -160,11 +160,11 @@ module _ (ar ws : List ℕ) where
     pub check-good : {a b : Bool} → a ≡ areArities ar → not a ≡ false → length ws / 3 * 3 ≡ length ws → length ws / 3 ≤ mostRows
         → Decides b (ValidRows ar ws (length ws / 3)) → not b ≡ false → r ≡ length ws / 3 → true ≡ isListing ar ws
     check-good {a} {b} d′ e′ w f d e q = sym (valid-is-listing ar ws (record {
-      arities = sym d′ ∙ not-left a e′;
+      arities = sym d′ ∙ not-false a e′;
       whole = sym w;
       some = omega arith;
       few = f;
-      each = d .yes (not-left b e) .each;
-      apart = d .yes (not-left b e) .apart;
+      each = d .yes (not-false b e) .each;
+      apart = d .yes (not-false b e) .apart;
       order = from-last ws n ∙ c .yes (λ z. omega arith) (rowCount ws) (omega arith) ∙ ap upTo q;
     }))

@@ -1,11 +1,12 @@
 -- Laws of the tests of single rows, of the index, and of the loop over the rows.
-use mathlib.Core.Path.{_≡_, refl, sym, _∙_}
+use mathlib.Core.Path.{_≡_, sym, _∙_}
 use mathlib.Core.Bool.{Bool, true, false, not, true≢false}
 use mathlib.Core.List.{List}
 use Prim.Native.Nat.{ℕ, _+_, _*_, _<_, _≤_, zero-le}
 use native.Mathlib.Omega.{arith}
 use lib.ListN.{getD, set}
 use lib.Seq.{set-getD}
+use borrow.Author.Tests.{not-true, not-false}
 use Rattle.basics.specs.Tests.{Cmp, cmp, below, equal, above}
 use Rattle.label.specs.Limits.{leafMark}
 use Rattle.label.specs.Labels.{isLabel}
@@ -24,15 +25,6 @@ use Rattle.diagram.specs.Words.{labelAt, highAt, lowAt, equalRows}
 use Rattle.diagram.specs.WordLaws.{rows-differ, differ-rows}
 use Rattle.diagram.specs.Validity.{LeafRow, BranchRow, ValidRow, a-leaf, a-branch, ValidRows}
 use Rattle.listing.specs.Check.{Decides, Entered}
-
--- `if !b`
-pub not-taken : (b : Bool) → not b ≡ true → b ≡ false
-not-taken true e = sym e
-not-taken false e = refl
-
-pub not-left : (b : Bool) → not b ≡ false → b ≡ true
-not-left true e = refl
-not-left false e = sym e
 
 pub deny : {P : Type 0} → (P → ⊥) → Decides false P
 deny f = record { yes = λ e. absurd (true≢false (sym e)); no = λ e. f }
@@ -69,7 +61,7 @@ module _ {ar ws : List ℕ} {i : ℕ} where
   module _ (e : getD ws (i * 3) 0 ≡ leafMark → ⊥) where
     pub bad-label : {b : Bool} → b ≡ isLabel ar (getD ws (i * 3) 0) → not b ≡ true → Decides false (ValidRow ar ws i)
     unfolding labelAt
-    bad-label {b} q n = deny (λ v. true≢false (sym (must-branch e v .label) ∙ sym q ∙ not-taken b n))
+    bad-label {b} q n = deny (λ v. true≢false (sym (must-branch e v .label) ∙ sym q ∙ not-true b n))
 
     pub bad-high : i ≤ getD ws (i * 3 + 1) 0 → Decides false (ValidRow ar ws i)
     unfolding highAt
@@ -85,11 +77,11 @@ module _ {ar ws : List ℕ} {i : ℕ} where
 
     pub bad-above-high : {b : Bool} → Compared (getD ws (i * 3) 0) (getD ws (getD ws (i * 3 + 1) 0 * 3) 0) b → not b ≡ true → Decides false (ValidRow ar ws i)
     unfolding labelAt highAt
-    bad-above-high {b} q n = deny (λ v. let r = must-branch e v .high-above in omega (arith, compared-not (labelAt ws i) (labelAt ws (highAt ws i)) q (not-taken b n)))
+    bad-above-high {b} q n = deny (λ v. let r = must-branch e v .high-above in omega (arith, compared-not (labelAt ws i) (labelAt ws (highAt ws i)) q (not-true b n)))
 
     pub bad-above-low : {b : Bool} → Compared (getD ws (i * 3) 0) (getD ws (getD ws (i * 3 + 2) 0 * 3) 0) b → not b ≡ true → Decides false (ValidRow ar ws i)
     unfolding labelAt lowAt
-    bad-above-low {b} q n = deny (λ v. let r = must-branch e v .low-above in omega (arith, compared-not (labelAt ws i) (labelAt ws (lowAt ws i)) q (not-taken b n)))
+    bad-above-low {b} q n = deny (λ v. let r = must-branch e v .low-above in omega (arith, compared-not (labelAt ws i) (labelAt ws (lowAt ws i)) q (not-true b n)))
 
     pub good-branch : {b c d : Bool} → b ≡ isLabel ar (getD ws (i * 3) 0) → not b ≡ false → getD ws (i * 3 + 1) 0 < i → getD ws (i * 3 + 2) 0 < i
         → (getD ws (i * 3 + 1) 0 ≡ getD ws (i * 3 + 2) 0 → ⊥)
@@ -98,11 +90,11 @@ module _ {ar ws : List ℕ} {i : ℕ} where
         → Decides true (ValidRow ar ws i)
     unfolding labelAt highAt lowAt
     good-branch {b} {c} {d} p n q r s t m u k = allow (a-branch (record {
-      label = sym p ∙ not-left b n;
+      label = sym p ∙ not-false b n;
       high-before = q;
       low-before = r;
-      high-above = compared-less _ _ t (not-left c m);
-      low-above = compared-less _ _ u (not-left d k);
+      high-above = compared-less _ _ t (not-false c m);
+      low-above = compared-less _ _ u (not-false d k);
       differ = s;
     }))
 
@@ -143,10 +135,10 @@ pub record Passed (ar ws heads links : List ℕ) (m i : ℕ) : Type 0 where
 
 module _ {ar ws : List ℕ} {m : ℕ} where
   pub pass-bad : {i : ℕ} {b : Bool} → i < m → Decides b (ValidRow ar ws i) → not b ≡ true → Decides false (ValidRows ar ws m)
-  pass-bad {i} {b} h d e = deny (λ v. d .no (not-taken b e) (v .each i h))
+  pass-bad {i} {b} h d e = deny (λ v. d .no (not-true b e) (v .each i h))
 
   pub pass-twin : {i : ℕ} {b : Bool} {heads′ links′ : List ℕ} → i < m → Entered ws m i b heads′ links′ → not b ≡ true → Decides false (ValidRows ar ws m)
-  pass-twin {i} {b} h d e = deny (λ v. d .no (not-taken b e) (λ j k q. differ-apart ws i j (v .apart i j h k) q))
+  pass-twin {i} {b} h d e = deny (λ v. d .no (not-true b e) (λ j k q. differ-apart ws i j (v .apart i j h k) q))
 
 module _ {ar ws heads links : List ℕ} {m : ℕ} where
   pub pass-start : Table ws heads links m 0 → Passed ar ws heads links m 0
@@ -154,11 +146,11 @@ module _ {ar ws heads links : List ℕ} {m : ℕ} where
 
   pub pass-next : {i : ℕ} {b c : Bool} {heads′ links′ : List ℕ} → Passed ar ws heads links m i → i < m → Decides b (ValidRow ar ws i) → not b ≡ false
       → Entered ws m i c heads′ links′ → not c ≡ false → Passed ar ws heads′ links′ m (i + 1)
-  pass-next {i} {b} {c} p h d e n q = record { most = omega arith; table = n .yes (not-left c q); each = λ k g. go k g (cmp k i) }
+  pass-next {i} {b} {c} p h d e n q = record { most = omega arith; table = n .yes (not-false c q); each = λ k g. go k g (cmp k i) }
     where
       go : (k : ℕ) → k < i + 1 → Cmp k i → ValidRow ar ws k
       go k g (below x) = p .each k x
-      go k g (equal x) = rw x (d .yes (not-left b e))
+      go k g (equal x) = rw x (d .yes (not-false b e))
       go k g (above x) = absurd (omega arith)
 
   pub pass-end : {i : ℕ} → Passed ar ws heads links m i → m ≤ i → Decides true (ValidRows ar ws m)

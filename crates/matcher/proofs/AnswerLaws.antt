@@ -11,16 +11,16 @@ use Rattle.label.specs.Labels.{areArities}
 use Rattle.diagram.specs.Validity.{tree}
 use Rattle.diagram.specs.ListingValid.{listing-is-valid}
 use Rattle.paths.specs.Paths.{Literal, Path, literals, termsIn}
+use Rattle.paths.specs.CodeLaws.{codes-are}
 use Rattle.cutting.specs.Match.{start, matches}
 use Rattle.cutting.specs.Cut.{covers}
 use Rattle.cutting.specs.Searchable.{Searchable, PathLabels}
 use Rattle.cutting.specs.CoverLaws.{searchable}
-use Rattle.paths.specs.Routes.{AllInRange, pathAt, Entered}
-use Rattle.matcher.specs.Search.{literalsIn}
+use Rattle.paths.specs.Routes.{AllInRange, pathAt, Entered, literalsIn}
 use Rattle.matcher.specs.Covering.{Target, Held, Covering}
 use Rattle.matcher.specs.Stored.{Marks, Enterable, Stored, Ready, BothStored, Answers}
 use Rattle.matcher.specs.Parts.{Kinds, PartsPost, WaysPost}
-use Rattle.matcher.proofs.StoreLaws.{codes-are, listed-labels}
+use Rattle.matcher.proofs.StoreLaws.{listed-labels}
 use Rattle.matcher.proofs.SomeWayLaws.{ways-fail}
 use Rattle.matcher.proofs.CoversLaws.{bothTerms, covers-setting, covers-order}
 

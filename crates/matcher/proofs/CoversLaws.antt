@@ -15,6 +15,7 @@ use Rattle.label.specs.Limits.{firstVariable, firstMinimum, mostPlaces}
 use Rattle.label.specs.Terms.{isVariable}
 use Rattle.label.specs.Labels.{areArities, unpacked, termsOf}
 use Rattle.paths.specs.Paths.{Literal, Path, literals, termsIn}
+use Rattle.paths.specs.Routes.{literalsIn}
 use Rattle.cutting.specs.Match.{Partial, start, matches}
 use Rattle.cutting.specs.Cut.{covers}
 use Rattle.cutting.specs.Searchable.{Searchable}
@@ -22,7 +23,7 @@ use Rattle.cutting.specs.MatchLaws.{in-terms, matches-sound, matches-order}
 use Rattle.cutting.specs.Searchable.{PathLabels}
 use Rattle.cutting.specs.CoverLaws.{searchable}
 use Rattle.matcher.specs.Stored.{Marks, Ready, PartPost}
-use Rattle.matcher.specs.Search.{literalsIn, segment, known, Replacing, Tabled, Setting, Inside, Unplaced, Placing}
+use Rattle.matcher.specs.Search.{segment, known, Replacing, Tabled, Setting, Inside, Unplaced, Placing}
 use Rattle.matcher.specs.Failure.{storeWords, rowOf, Remembers, isFound, isWeary, Solving, SolvePost, Decidable, Decided}
 use Rattle.matcher.specs.declared.Answer.{Answer}
 use Rattle.matcher.specs.declared.Answer.the-variants.{Found, Failed, Weary}

@@ -14,10 +14,11 @@ use Rattle.label.specs.Renamings.{moved}
 use Rattle.label.specs.declared.Test.{Test}
 use Rattle.label.specs.declared.Test.the-variants.{Always, Is}
 use Rattle.paths.specs.Paths.{Literal}
+use Rattle.paths.specs.Routes.{literalAt, literalsIn}
 use Rattle.cutting.specs.Cut.{Matched, plain, found}
 use Rattle.cutting.specs.MovedLaws.{asks, moved-asks, asks-other, Two, two, length-two}
 use Rattle.cutting.specs.MatchLaws.{lit}
-use Rattle.matcher.specs.Search.{literalAt, literalsIn, isEquality, intoAt, Setting, Met, truth, other, Finds, imageOf, packing, imageLabel}
+use Rattle.matcher.specs.Search.{isEquality, intoAt, Setting, Met, truth, other, Finds, imageOf, packing, imageLabel}
 use Rattle.matcher.specs.Search.{equal as matched}
 use Rattle.matcher.proofs.LiteralLaws.{into-mem, mem-into, number-same, predicate-zero, predicate-more}
 use Rattle.matcher.proofs.TermLaws.{place-term}

@@ -11,10 +11,11 @@ use Rattle.label.specs.Limits.{firstVariable, firstMinimum, mostPlaces}
 use Rattle.label.specs.Terms.{isVariable}
 use Rattle.label.specs.Labels.{isLabel, placeAt, termsOf, unpacked}
 use Rattle.paths.specs.Paths.{Literal}
+use Rattle.paths.specs.Routes.{literalAt, literalsIn}
 use Rattle.cutting.specs.Match.{Partial, start, agree, bindTerm, thenBind, bindTerms, targets}
 use Rattle.cutting.specs.Cut.{Matched}
 use Rattle.cutting.specs.MatchLaws.{Solves, binds-some, binds-only, target-sound, target-complete}
-use Rattle.matcher.specs.Search.{literalAt, literalsIn, placesIn, wayPlace, wayPlaces, Setting}
+use Rattle.matcher.specs.Search.{placesIn, wayPlace, wayPlaces, Setting}
 use Rattle.matcher.specs.declared.Way.{Way}
 use Rattle.matcher.proofs.AlongLaws.{along-same, along-equal, along-map}
 use Rattle.matcher.proofs.TargetLaws.{WayOf, way-out}

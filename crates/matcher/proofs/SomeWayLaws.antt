@@ -14,10 +14,11 @@ use Rattle.basics.specs.Members.{clash}
 use Rattle.label.specs.Limits.{firstMinimum}
 use Rattle.label.specs.Labels.{predicateOf}
 use Rattle.paths.specs.Paths.{Literal}
+use Rattle.paths.specs.Routes.{literalAt, literalsIn}
 use Rattle.cutting.specs.Match.{start, waysAmong, plainWays, targets, matches}
 use Rattle.cutting.specs.Searchable.{Searchable}
 use Rattle.cutting.specs.MatchLaws.{among-out, some-out}
-use Rattle.matcher.specs.Search.{literalAt, literalsIn, isEquality, alike}
+use Rattle.matcher.specs.Search.{isEquality, alike}
 use Rattle.matcher.specs.Parts.{NoWay, kindOf, kindCount, Kinds, WayPost, WaysPost}
 use Rattle.matcher.proofs.WayLaws.{untaken}
 use Rattle.matcher.proofs.LiteralLaws.{is-alike, zero-predicate}

@@ -20,19 +20,14 @@ use Rattle.paths.specs.Paths.{Literal, Path, paths, literals, termsIn}
 use Rattle.cutting.specs.MatchLaws.{in-terms}
 use Rattle.cutting.specs.Searchable.{PathLabels}
 use Rattle.cutting.specs.CoverLaws.{path-labels, path-plain}
-use Rattle.paths.specs.CodeLaws.{half, literals-codes}
+use Rattle.paths.specs.CodeLaws.{half, codes-are}
 use Rattle.paths.specs.PathLaws.{range-terms, paths-branch}
-use Rattle.paths.specs.Routes.{bit, codeOf, codes, stepOn, pathAt, At, Entered, InRange}
-use Rattle.matcher.specs.Search.{literalAt, literalsIn}
+use Rattle.paths.specs.Routes.{bit, codeOf, codes, stepOn, pathAt, At, Entered, InRange, literalsIn}
 use Rattle.matcher.specs.Stored.{termsOfCode, Coded, Marking, Enterable, Stored}
 use Rattle.paths.specs.PathLaws.{path-in, path-high, path-low, codes-step}
 use Rattle.matcher.proofs.CoversLaws.{of-terms}
 
 -- ===== Literals and their numbers =====
-pub codes-are : (p : Path) → literalsIn (codes p) ≡ literals p
-unfolding literalsIn literalAt codes
-codes-are p = literals-codes (literals p)
-
 -- ===== The numbers along a path ascend =====
 abbrev Ascends : ℕ → List ℕ → Type 0
 Ascends n [] = Unit {0}

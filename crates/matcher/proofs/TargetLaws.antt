@@ -15,29 +15,11 @@ use Rattle.label.specs.Limits.{firstMinimum, mostPlaces}
 use Rattle.label.specs.Labels.{areArities, isLabel, predicateOf, unpacked, termsOf}
 use Rattle.label.specs.ArityLaws.{terms-length, arity-two}
 use Rattle.paths.specs.Paths.{Literal}
+use Rattle.paths.specs.Routes.{literalAt, literalsIn}
 use Rattle.cutting.specs.Match.{Partial, bindTerms, turned, ways, waysAmong, plainWays, targets}
 use Rattle.cutting.specs.MovedLaws.{EqualityTerms, equality-terms, two}
 use Rattle.cutting.specs.MatchLaws.{lit, among-in, among-out, twice-in, twice-out}
-use Rattle.matcher.specs.Search.{
-  literalAt,
-  literalsIn,
-  along,
-  placesIn,
-  isEquality,
-  turn,
-  wayPlace,
-  wayPlaces,
-  isNothing,
-  alike,
-  intoCount,
-  intoAt,
-  plainWay,
-  equalWay,
-  wayAt,
-  wayCount,
-  Setting,
-  other,
-}
+use Rattle.matcher.specs.Search.{along, placesIn, isEquality, turn, wayPlace, wayPlaces, isNothing, alike, intoCount, intoAt, plainWay, equalWay, wayAt, wayCount, Setting, other}
 use Rattle.matcher.specs.declared.Way.{Way}
 use Rattle.matcher.specs.declared.Way.the-variants.{Straight, Turned, Twice, Nothing}
 use Rattle.matcher.proofs.LiteralLaws.{into-mem, mem-into, alike-is, is-alike, predicate-zero, zero-predicate}

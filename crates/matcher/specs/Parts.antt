@@ -10,8 +10,8 @@ use Rattle.label.specs.Limits.{firstVariable, firstMinimum, predicateCount, mos
 use Rattle.label.specs.Labels.{predicateOf, placeAt}
 use Rattle.paths.specs.Paths.{mostPaths}
 use Rattle.cutting.specs.Match.{start, matches}
-use Rattle.paths.specs.Routes.{AllInRange}
-use Rattle.matcher.specs.Search.{literalsIn, isEquality, anyOf, alike, Setting}
+use Rattle.paths.specs.Routes.{AllInRange, literalsIn}
+use Rattle.matcher.specs.Search.{isEquality, anyOf, alike, Setting}
 use Rattle.matcher.specs.declared.Pick.{Pick}
 
 -- the term t is a variable that was seen

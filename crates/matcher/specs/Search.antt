@@ -2,7 +2,7 @@
 -- minimum variables (document 02, L12), so that terms are below firstMinimum, and those from firstVariable on are variables.
 use mathlib.Core.Path.{_≡_}
 use mathlib.Core.Bool.{Bool, true, false, _&&_, _||_, cond}
-use mathlib.Core.List.{List, [], _∷_, _++_, map, List·Memᴰ}
+use mathlib.Core.List.{List, [], _∷_, _++_, List·Memᴰ}
 use mathlib.Core.Option.{some, none}
 use Prim.Native.Nat.{ℕ, zero, suc, _+_, _-_, _*_, _/_, _%_, _≤_, _<_}
 use lib.ListN.{length, getD, set, take, drop}
@@ -11,18 +11,11 @@ use Rattle.label.specs.Limits.{firstVariable, firstMinimum, termBase, mostPlace
 use Rattle.label.specs.Labels.{predicateOf, placeAt, equates}
 use Rattle.label.specs.declared.Test.the-variants.{Always, Is}
 use Rattle.paths.specs.Paths.{mostPaths, Literal, termsIn}
-use Rattle.paths.specs.Routes.{InRange}
+use Rattle.paths.specs.Routes.{InRange, literalAt, literalsIn}
 use Rattle.cutting.specs.Match.{Partial, bindTerms}
 use Rattle.cutting.specs.Searchable.{AllLabels, Searchable}
 use Rattle.matcher.specs.declared.Way.{Way}
 use Rattle.matcher.specs.declared.Way.the-variants.{Straight, Turned, Twice, Nothing}
-
--- the literal that a number stands for: its label twice, and one more where it is true
-unfoldable pub literalAt : ℕ → Literal
-literalAt x = record { label = x / 2; sign = eqb (x % 2) 1 }
-
-unfoldable pub literalsIn : List ℕ → List Literal
-literalsIn xs = map literalAt xs
 
 -- f 0, f 1, .., f (n - 1)
 unfoldable pub along : (ℕ → ℕ) → ℕ → List ℕ

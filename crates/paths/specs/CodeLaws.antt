@@ -5,8 +5,8 @@ use mathlib.Core.List.{List, [], _∷_, map}
 use Prim.Native.Nat.{ℕ, _+_, _*_, _/_, _%_}
 use native.Mathlib.Omega.{arith}
 use lib.Dec.{eqb}
-use Rattle.paths.specs.Paths.{Literal}
-use Rattle.paths.specs.Routes.{bit, codeOf}
+use Rattle.paths.specs.Paths.{Literal, Path, literals}
+use Rattle.paths.specs.Routes.{bit, codeOf, codes, literalAt, literalsIn}
 
 -- its half is the label, and it is odd where the test holds
 pub half : (l : ℕ) (b : Bool) → (l * 2 + bit b) / 2 ≡ l
@@ -17,10 +17,14 @@ odd : (l : ℕ) (b : Bool) → eqb ((l * 2 + bit b) % 2) 1 ≡ b
 odd l true = let e : (l * 2 + 1) % 2 ≡ 1 = omega arith in ap (λ (x : ℕ). eqb x 1) e
 odd l false = let e : (l * 2 + 0) % 2 ≡ 0 = omega arith in ap (λ (x : ℕ). eqb x 1) e
 
-literal-code : (l : Literal) → _≡_ {A = Literal} (record { label = codeOf l / 2; sign = eqb (codeOf l % 2) 1 }) l
-unfolding codeOf
+literal-code : (l : Literal) → literalAt (codeOf l) ≡ l
+unfolding literalAt codeOf
 literal-code l = λ i. record { label = half (l .label) (l .sign) i; sign = odd (l .label) (l .sign) i }
 
-pub literals-codes : (ls : List Literal) → map {B = Literal} (λ x. record { label = x / 2; sign = eqb (x % 2) 1 }) (map codeOf ls) ≡ ls
+literals-codes : (ls : List Literal) → map literalAt (map codeOf ls) ≡ ls
 literals-codes [] = refl
 literals-codes (l ∷ ls) = ap₂ _∷_ (literal-code l) (literals-codes ls)
+
+pub codes-are : (p : Path) → literalsIn (codes p) ≡ literals p
+unfolding literalsIn codes
+codes-are p = literals-codes (literals p)

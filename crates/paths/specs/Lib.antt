@@ -9,6 +9,7 @@
 --
 -- For proofs
 --   stepOn, pathAt, codes == an edge of a branch; path k of a diagram; its literals as numbers
+--   literalAt, literalsIn == the literal that a number stands for; those of numbers
 --
 -- Theorems
 --   paths-are: the paths are those of the numbers 0, 1, ..

@@ -2,7 +2,7 @@
 use mathlib.Core.Path.{_≡_}
 use mathlib.Core.Bool.{Bool, true, false, cond}
 use mathlib.Core.List.{List, [], map}
-use Prim.Native.Nat.{ℕ, suc, _+_, _-_, _*_, _/_, _≤_, _<_, min}
+use Prim.Native.Nat.{ℕ, suc, _+_, _-_, _*_, _/_, _%_, _≤_, _<_, min}
 use lib.ListN.{length, getD, take, drop}
 use lib.Dec.{ltb, eqb}
 use Rattle.label.specs.Limits.{predicateCount, mostPlaces, predicateWeight, leafMark}
@@ -24,6 +24,13 @@ codeOf l = l .label * 2 + bit (l .sign)
 unfoldable pub codes : Path → List ℕ
 unfolding codeOf literals
 codes p = map codeOf (literals p)
+
+-- the literal that a number stands for
+unfoldable pub literalAt : ℕ → Literal
+literalAt x = record { label = x / 2; sign = eqb (x % 2) 1 }
+
+unfoldable pub literalsIn : List ℕ → List Literal
+literalsIn xs = map literalAt xs
 
 -- the label l has the number of a predicate, and in its places numbers below e
 pub record InRange (e l : ℕ) : Type 0 where

@@ -1,10 +1,8 @@
 -- Laws of the loops over variants and actions.
 use mathlib.Core.Path.{_≡_, refl, sym, ap, subst, _∙_}
-use mathlib.Core.Logic.{_⊎_, inl, inr}
-use mathlib.Core.List.{List, [], _∷_, _++_}
-use Prim.Native.Nat.{ℕ, zero, suc, _+_, _*_, _≤_, _<_}
+use mathlib.Core.List.{List}
+use Prim.Native.Nat.{ℕ, _+_, _*_, _≤_, _<_}
 use native.Mathlib.Omega.{arith}
-use native.Mathlib.Nat.{eq-or-lt-of-le, le-of-suc-le-suc}
 use lib.ListN.{length, getD, take, replicate, length-replicate}
 use Rattle.refusal.specs.declared.Refusal.{Refusal}
 use Rattle.refusal.specs.Outcome.{Outcome, andThen}
@@ -25,25 +23,10 @@ use Rattle.steps.specs.declared.Step.{Step}
 use Rattle.steps.specs.declared.Step.the-variants.{Rows, Refused}
 use Rattle.steps.specs.Steps.{Given, Begun, BufferListing}
 use Rattle.planner.specs.Parts.{variantAdded, freedUp, actionValue, actionTried}
-use Rattle.planner.specs.PartLaws.{sum-more, best-more, sum-fits}
+use Rattle.planner.specs.PartLaws.{many-every, sum-more, best-more, sum-fits}
 use Rattle.planner.specs.Tasks.{VariantTask, ValueTask, ActionTask, FreeUp}
 use Rattle.steps.specs.GivenLaws.{given-same, refused-then, done-then}
 use Rattle.steps.specs.FoldLaws.{Folded, folded-start, folded-begins, folded-stops, folded-on, folded-end}
-
--- ===== Lists by number =====
-
-every-last : {A : Type 0} (P : A → Type 0) (l : List A) (a : A) → Every P (l ++ (a ∷ [])) → Every P l × P a
-every-last P [] a h = (tt, h .0)
-every-last P (b ∷ l) a h = let r = every-last P l a (h .1) in ((h .0, r .0), r .1)
-
-many-every : {A : Type 0} (P : A → Type 0) (f : ℕ → A) (n v : ℕ) → Every P (many f n) → v < n → P (f v)
-unfolding many
-many-every P f zero v h k = absurd (omega arith)
-many-every {A} P f (suc n) v h k = let r = every-last P (many f n) (f n) h in go (r .1) (many-every P f n v (r .0)) (eq-or-lt-of-le (le-of-suc-le-suc k))
-  where
-    go : P (f n) → (v < n → P (f v)) → (v ≡ n) ⊎ (v < n) → P (f v)
-    go p rest (inl e) = subst (λ (x : ℕ). P (f x)) (sym e) p
-    go p rest (inr l) = rest l
 
 -- ===== The sum over the variants =====
 

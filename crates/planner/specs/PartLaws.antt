@@ -1,8 +1,8 @@
 -- The parts, put together, are the sum over the variants and the best over the actions; and what they give is in range.
-use mathlib.Core.Path.{_≡_, refl, sym, ap, _∙_}
+use mathlib.Core.Path.{_≡_, refl, sym, ap, subst, _∙_}
 use mathlib.Core.Bool.{true}
 use mathlib.Core.List.{List, [], _∷_, _++_}
-use Prim.Native.Nat.{ℕ, _≤_}
+use Prim.Native.Nat.{ℕ, zero, suc, _≤_, _<_}
 use native.Mathlib.Omega.{arith}
 use Rattle.refusal.specs.Outcome.{Outcome, ok, refused, andThen, Accepted}
 use Rattle.refusal.specs.OutcomeLaws.{accepted-ok, accepted-then}
@@ -14,10 +14,12 @@ use Rattle.diagram.specs.Variables.{closed}
 use Rattle.apply.specs.declared.Operation.the-variants.{Sum, Product, Max}
 use Rattle.apply.specs.declared.Names.the-variants.{Apart, Shared}
 use Rattle.state.specs.State.{meaning}
+use Rattle.state.specs.ValueLaws.{by-low}
 use Rattle.regression.specs.Regression.{regressed}
 use Rattle.regression.specs.Parameters.{Within}
 use Rattle.regression.specs.TellsLaws.{regressed-tells}
 use Rattle.regression.specs.RegressCall.{freedOutcome}
+use Rattle.names.specs.Many.{many}
 use Rattle.mdp.specs.Model.{Variant, Action, Every, GoodVariant, GoodAction}
 use Rattle.mdp.specs.Backup.{combined, variantsSum, actionsBest}
 use Rattle.mdp.specs.StepLaws.{sum-none, sum-next, best-none, best-next}
@@ -25,6 +27,35 @@ use Rattle.mdp.specs.BackupLaws.{truths-good, truths-within, weight-within}
 use Rattle.mdp.specs.CallLaws.{within-more, leaf-listed, leaf-within, shared-made, apart-joined}
 use Rattle.planner.specs.Parts.{variantProduct, variantAdded, freedUp, actionValue, actionTried}
 use Rattle.steps.specs.GivenLaws.{then-then, then-same}
+
+-- ===== Lists by number =====
+
+every-last : {A : Type 0} (P : A → Type 0) (l : List A) (a : A) → Every P (l ++ (a ∷ [])) → Every P l × P a
+every-last P [] a h = (tt, h .0)
+every-last P (b ∷ l) a h = let r = every-last P l a (h .1) in ((h .0, r .0), r .1)
+
+pub many-every : {A : Type 0} (P : A → Type 0) (f : ℕ → A) (n v : ℕ) → Every P (many f n) → v < n → P (f v)
+unfolding many
+many-every P f zero v h k = absurd (omega arith)
+many-every P f (suc n) v h k =
+    let r = every-last P (many f n) (f n) h in
+    by-low (P (f v)) n v (λ q. many-every P f n v (r .0) q) (λ q. let e : n ≡ v = omega arith in subst (λ (x : ℕ). P (f x)) e (r .1))
+
+-- ===== Folds, with one part more at the end =====
+
+module _ {A : Type 0} (all : Diagram → List A → Outcome Diagram) (one : Diagram → A → Outcome Diagram) (none : (d : Diagram) → all d [] ≡ ok d)
+    (next : (d : Diagram) (a : A) (l : List A) → all d (a ∷ l) ≡ andThen (one d a) (λ e. all e l)) where
+  fold-more : (d : Diagram) (l : List A) (a : A) → all d (l ++ (a ∷ [])) ≡ andThen (all d l) (λ e. one e a)
+  fold-more d [] a = next d a [] ∙ last (one d a) ∙ ap (λ (o : Outcome Diagram). andThen o (λ e. one e a)) (sym (none d))
+    where
+      last : (o : Outcome Diagram) → andThen o (λ e. all e []) ≡ o
+      last (ok e) = none e
+      last (refused r) = refl
+  fold-more d (b ∷ l) a =
+      next d b (l ++ (a ∷ []))
+      ∙ then-same (one d b) _ _ (λ e. fold-more e l a)
+      ∙ sym (then-then (one d b) (λ e. all e l) (λ e. one e a))
+      ∙ ap (λ (o : Outcome Diagram). andThen o (λ e. one e a)) (sym (next d b l))
 
 module _ (ar : List ℕ) (g : ℕ) (d : Diagram) where
   sum-added : (sum : Diagram) (v : Variant) (vs : List Variant) → variantsSum ar g d sum (v ∷ vs) ≡ andThen (variantAdded ar g d sum v) (λ s. variantsSum ar g d s vs)
@@ -40,16 +71,7 @@ module _ (ar : List ℕ) (g : ℕ) (d : Diagram) where
 
   -- one variant more, at the end
   pub sum-more : (sum : Diagram) (vs : List Variant) (v : Variant) → variantsSum ar g d sum (vs ++ (v ∷ [])) ≡ andThen (variantsSum ar g d sum vs) (λ s. variantAdded ar g d s v)
-  sum-more sum [] v = sum-added sum v [] ∙ last (variantAdded ar g d sum v) ∙ ap (λ (o : Outcome Diagram). andThen o (λ s. variantAdded ar g d s v)) (sym (sum-none ar g d sum))
-    where
-      last : (o : Outcome Diagram) → andThen o (λ s. variantsSum ar g d s []) ≡ o
-      last (ok s) = sum-none ar g d s
-      last (refused r) = refl
-  sum-more sum (u ∷ vs) v =
-      sum-added sum u (vs ++ (v ∷ []))
-      ∙ then-same (variantAdded ar g d sum u) _ _ (λ s. sum-more s vs v)
-      ∙ sym (then-then (variantAdded ar g d sum u) (λ s. variantsSum ar g d s vs) (λ s. variantAdded ar g d s v))
-      ∙ ap (λ (o : Outcome Diagram). andThen o (λ s. variantAdded ar g d s v)) (sym (sum-added sum u vs))
+  sum-more = fold-more (variantsSum ar g d) (variantAdded ar g d) (sum-none ar g d) sum-added
 
   best-tried : (best : Diagram) (a : Action) (l : List Action) → actionsBest ar g d best (a ∷ l) ≡ andThen (actionTried ar g d best a) (λ b. actionsBest ar g d b l)
   unfolding actionTried actionValue freedUp
@@ -63,16 +85,7 @@ module _ (ar : List ℕ) (g : ℕ) (d : Diagram) where
 
   -- one action more, at the end
   pub best-more : (best : Diagram) (l : List Action) (a : Action) → actionsBest ar g d best (l ++ (a ∷ [])) ≡ andThen (actionsBest ar g d best l) (λ b. actionTried ar g d b a)
-  best-more best [] a = best-tried best a [] ∙ last (actionTried ar g d best a) ∙ ap (λ (o : Outcome Diagram). andThen o (λ b. actionTried ar g d b a)) (sym (best-none ar g d best))
-    where
-      last : (o : Outcome Diagram) → andThen o (λ b. actionsBest ar g d b []) ≡ o
-      last (ok b) = best-none ar g d b
-      last (refused r) = refl
-  best-more best (e ∷ l) a =
-      best-tried best e (l ++ (a ∷ []))
-      ∙ then-same (actionTried ar g d best e) _ _ (λ b. best-more b l a)
-      ∙ sym (then-then (actionTried ar g d best e) (λ b. actionsBest ar g d b l) (λ b. actionTried ar g d b a))
-      ∙ ap (λ (o : Outcome Diagram). andThen o (λ b. actionTried ar g d b a)) (sym (best-tried best e l))
+  best-more = fold-more (actionsBest ar g d) (actionTried ar g d) (best-none ar g d) best-tried
 
 -- ===== Parameters =====
 

@@ -1,9 +1,11 @@
 -- What the code of terms and variables needs to know.
 use Prim.Native.Nat.{ℕ, _+_, _*_, _≤_, _<_, min}
 use mathlib.Core.Path.{_≡_, refl, sym, ap, subst, _∙_}
-use mathlib.Core.List.{List}
+use mathlib.Core.List.{List, [], _∷_}
 use native.Mathlib.Omega.{arith}
 use borrow.Author.Tests.{le-leb, lt-leb}
+use types.Run.{OneOf, miss}
+use denote.Enum.Declared.{tagOf}
 use Rattle.refusal.specs.declared.Refusal.the-variants.{Name, Unbound}
 use Rattle.refusal.specs.Outcome.{ok}
 use Rattle.label.specs.Limits.{constantCount, parameterCount, firstVariable, variableCount, firstMinimum}
@@ -12,6 +14,7 @@ use Rattle.words.specs.declared.Key.{Key}
 use Rattle.names.specs.Keys.{keysAt, placeOf, putKey}
 use Rattle.names.specs.KeyLaws.{length-keys, among-at, among-none, keys-more, length-put}
 use Rattle.names.specs.Layout.{constantsAt, parametersAt}
+use Rattle.events.proofs.Event.{the-type}
 use Rattle.events.specs.declared.Event.{Event}
 use Rattle.events.specs.declared.Event.the-variants as E
 use Rattle.reading.specs.declared.Binding.{Binding}
@@ -132,27 +135,18 @@ module _ (b : Binding) (vs : List ℕ) (n : Known) (e : Event) {k : Key} {r : Kn
   pub word-minimum : e ≡ E.Minimum k → MeetsWord (minimumMet b (metIn vs n) k) r vs′ → MeetsWord (metAt b (metIn vs n) e) r vs′
   word-minimum p g = rw p g
 
-module _ (b : Binding) (vs : List ℕ) (n : Known) (t : Variables vs n) (e : Event) where
-  stays : (u : Event) → e ≡ u → metAt b (metIn vs n) u ≡ metIn vs n → MeetsWord (metAt b (metIn vs n) e) n vs
-  stays u p q = rw p (record { met = sym q; table = t })
+-- the other words, by their numbers
+abbrev others : List ℕ
+others = 0 ∷ 2 ∷ 4 ∷ 5 ∷ 6 ∷ 7 ∷ 8 ∷ []
 
-  pub word-name : {k : Key} → e ≡ E.Name k → MeetsWord (metAt b (metIn vs n) e) n vs
-  word-name {k} p = stays (E.Name k) p refl
-
-  pub word-parameter : {k : Key} → e ≡ E.Parameter k → MeetsWord (metAt b (metIn vs n) e) n vs
-  word-parameter {k} p = stays (E.Parameter k) p refl
-
-  pub word-number : {v : ℕ} → e ≡ E.Number v → MeetsWord (metAt b (metIn vs n) e) n vs
-  word-number {v} p = stays (E.Number v) p refl
-
-  pub word-equal : e ≡ E.Equal → MeetsWord (metAt b (metIn vs n) e) n vs
-  word-equal p = stays E.Equal p refl
-
-  pub word-holds : {k : Key} {m : ℕ} → e ≡ E.Holds k m → MeetsWord (metAt b (metIn vs n) e) n vs
-  word-holds {k} {m} p = stays (E.Holds k m) p refl
-
-  pub word-step : e ≡ E.Step → MeetsWord (metAt b (metIn vs n) e) n vs
-  word-step p = stays E.Step p refl
-
-  pub word-end : e ≡ E.End → MeetsWord (metAt b (metIn vs n) e) n vs
-  word-end p = stays E.End p refl
+module _ (b : Binding) (vs : List ℕ) (n : Known) (t : Variables vs n) where
+  pub word-other : (e : Event) → OneOf others (tagOf the-type e) → MeetsWord (metAt b (metIn vs n) e) n vs
+  word-other (E.Name k) y = record { met = refl; table = t }
+  word-other (E.Variable k) y = absurd (miss others 1 tt y)
+  word-other (E.Parameter k) y = record { met = refl; table = t }
+  word-other (E.Minimum k) y = absurd (miss others 3 tt y)
+  word-other (E.Number v) y = record { met = refl; table = t }
+  word-other E.Equal y = record { met = refl; table = t }
+  word-other (E.Holds k m) y = record { met = refl; table = t }
+  word-other E.Step y = record { met = refl; table = t }
+  word-other E.End y = record { met = refl; table = t }

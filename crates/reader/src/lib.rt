@@ -18,7 +18,7 @@ ghost use Rattle.refusal.specs.Outcome.{ok};
 ghost use Rattle.label.specs.Limits.{constantCount, parameterCount, predicateCount, termEnd, mostPlaces};
 ghost use Rattle.label.specs.Labels.{unpacked};
 ghost use Rattle.label.specs.Terms.{variableTerm, minimumTerm};
-ghost use Rattle.events.specs.Front.{isEnd, eventsOf};
+ghost use Rattle.events.specs.Front.{eventsOf};
 ghost use Rattle.names.specs.Keys.{keysAt};
 ghost use Rattle.names.specs.Layout.{constantsAt, declaredAt, parametersAt};
 ghost use Rattle.reading.specs.Head.{openingOf, argumentOf, headNumber, argumentsFrom, headArguments};
@@ -410,15 +410,9 @@ fn meet_word(variables: &mut [u64], known: Known, binding: Binding, event: Event
     ensures { λ r. ⌜ MeetsWord (metAt binding (metIn (now (variables .entry)) known) event) r (now (variables .exit)) ⌝ }
 {
     match event {
-        Event::Name(_) => known,
         Event::Variable(key) => meet_variable(variables, known, binding, key),
-        Event::Parameter(_) => known,
         Event::Minimum(key) => meet_minimum(variables, known, binding, key),
-        Event::Number(_) => known,
-        Event::Equal => known,
-        Event::Holds(_, _) => known,
-        Event::Step => known,
-        Event::End => known,
+        _ => known,
     }
 }
 
@@ -478,23 +472,6 @@ fn read_word(
     }
 }
 
-// Whether the line ends here.
-fn is_end(event: Event) -> bool
-    ensures { λ r. ⌜ r ≡ isEnd event ⌝ }
-{
-    match event {
-        Event::Name(_) => false,
-        Event::Variable(_) => false,
-        Event::Parameter(_) => false,
-        Event::Minimum(_) => false,
-        Event::Number(_) => false,
-        Event::Equal => false,
-        Event::Holds(_, _) => false,
-        Event::Step => false,
-        Event::End => true,
-    }
-}
-
 // The answer after all words: each kind of variables has a limit of its own.
 fn finish(known: Known, operations: usize) -> Read
     ensures { λ r. ⌜ r ≡ readAnswer known operations ⌝ }
@@ -544,7 +521,7 @@ fn read_all(
     while place < line.len() {
         let next = events::next_event(line, place);
         let event = next.event;
-        if is_end(event) {
+        if events::is_end(event) {
             return finish(known, pass.operations);
         }
         let binding = scope.binding;
@@ -863,7 +840,7 @@ fn number_variables(line: &[u8], at: usize, variables: &mut [u64], kind: Kind) -
     while place < line.len() {
         let next = events::next_event(line, place);
         let event = next.event;
-        if is_end(event) {
+        if events::is_end(event) {
             return count;
         }
         let word = variable_of(kind, event);

@@ -53,7 +53,7 @@ power-all {v} {p} {j} e h k l = let z : v ^ j ≡ v ^ v = ap (λ (x : ℕ). v ^ 
 
 -- ===== Paths by their marks =====
 module _ (p : ℕ → Bool) where
-  some-mem : (k : ℕ) (l : List ℕ) → mem eqb k l ≡ true → p k ≡ true → someOf p l ≡ true
+  pub some-mem : (k : ℕ) (l : List ℕ) → mem eqb k l ≡ true → p k ≡ true → someOf p l ≡ true
   some-mem k [] m e = clash m refl
   some-mem k (x ∷ l) m e = go (either (eqb k x) (mem eqb k l) m) (some-mem k l)
     where
@@ -61,7 +61,7 @@ module _ (p : ℕ → Bool) where
       go (one q) ih = or-one _ _ (ap p (sym (eqb-true k x q)) ∙ e)
       go (other q) ih = or-other (p x) _ (ih q e)
 
-  mem-some : (l : List ℕ) → someOf p l ≡ true → (k : ℕ) × (mem eqb k l ≡ true) × (p k ≡ true)
+  pub mem-some : (l : List ℕ) → someOf p l ≡ true → (k : ℕ) × (mem eqb k l ≡ true) × (p k ≡ true)
   mem-some [] e = clash e refl
   mem-some (x ∷ l) e = go (either (p x) (someOf p l) e) (mem-some l)
     where

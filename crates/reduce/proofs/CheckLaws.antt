@@ -7,13 +7,12 @@ use native.Mathlib.Omega.{arith}
 use native.Mathlib.Nat.{mul-le-mul, mul-le-mul-left}
 use lib.ListN.{length, getD, replicate, length-replicate}
 use lib.Dec.{ltb}
-use borrow.Author.Tests.{lt-ltb, le-ltb}
+use borrow.Author.Tests.{lt-ltb, le-ltb, not-true, not-false}
 use Rattle.refusal.specs.declared.Refusal.{Refusal}
 use Rattle.refusal.specs.declared.Refusal.the-variants.{Unbound, Listing, Paths, Buffer, Kinds, Runs}
 use Rattle.refusal.specs.Outcome.{Outcome, refused}
 use Rattle.basics.specs.Tests.{Cmp, cmp, below, equal, above, or-one, or-other}
 use Rattle.label.specs.Limits.{variableCount}
-use Rattle.listing.proofs.RowLaws.{not-taken, not-left}
 use Rattle.listing.specs.Used.{Used, markedVariables}
 use Rattle.listing.specs.UsedLaws.{marked-variables}
 use Rattle.diagram.specs.Sizes.{mostRows, resultWords, spaceWords}
@@ -155,11 +154,11 @@ module _ (ar ws out work : List ℕ) where
     call-listing f = not-made Listing
         (call-pick
         ∙ ap (λ (a : Bool). pick a (ltb (length out) resultWords || ltb (length work) spaceWords) (hasParameter ar (diagramOf ws)) (reduceAnswer ar (diagramOf ws)))
-        (sym e ∙ not-taken b f))
+        (sym e ∙ not-true b f))
 
     module _ (f : not b ≡ false) where
       pub call-listed : isListing ar ws ≡ true
-      call-listed = sym e ∙ not-left b f
+      call-listed = sym e ∙ not-false b f
 
       small : (ltb (length out) resultWords || ltb (length work) spaceWords) ≡ true → Call ≡ refused Buffer
       unfolding pick

@@ -2,14 +2,14 @@
 use mathlib.Core.Path.{_≡_, refl, sym, ap, ap₂, subst, _∙_}
 use mathlib.Core.Logic.{_⊎_, inl, inr, ⊎-elim}
 use mathlib.Core.Bool.{Bool, true, false, not, _||_, _&&_, cond}
-use mathlib.Core.List.{List, [], _∷_}
+use mathlib.Core.List.{List}
 use Prim.Native.Nat.{ℕ, zero, suc, pred, _+_, _-_, _*_, _/_, _≤_, _<_}
 use native.Mathlib.Omega.{arith}
 use native.Mathlib.Nat.{zero-add}
 use native.Mathlib.Numerals.{add-one}
 use lib.ListN.{length, getD}
 use lib.Dec.{eqb}
-use borrow.Author.Tests.{eq-eqb, ne-eqb, eqb-true, eqb-false, lt-ltb, ltb-true}
+use borrow.Author.Tests.{eq-eqb, ne-eqb, eqb-true, eqb-false, lt-ltb, ltb-true, not-true, not-false}
 use Rattle.basics.specs.Tests.{Flag, isTrue, isFalse, flag, Cmp, cmp, below, equal, above, Either, one, other, either, or-one, or-other}
 use Rattle.basics.specs.Members.{mem, clash}
 use Rattle.label.specs.Limits.{constantCount, firstParameter, parameterCount, termEnd, leafMark, predicateWeight, equality}
@@ -22,13 +22,13 @@ use Rattle.diagram.specs.Validity.{Valid, tree}
 use Rattle.diagram.specs.Variables.{occurs, isPlain}
 use Rattle.diagram.specs.DiagramOfListing.{diagram-is, good-diagram, shown-rows}
 use Rattle.diagram.specs.ListingValid.{listing-is-valid}
-use Rattle.listing.proofs.RowLaws.{not-taken, not-left}
 use Rattle.listing.specs.Used.{Used, markedMinimums}
 use Rattle.listing.specs.UsedLaws.{marked-plain}
 use Rattle.reduction.specs.Combinations.{someOf}
 use Rattle.reduction.specs.Reduction.{isGeneral, hasKinds, hasParameter}
 use Rattle.reduction.specs.CallLaws.{parameter-quiet, quiet-parameter}
 use Rattle.reduce.specs.Winning.{someUsed, Markable}
+use Rattle.reduce.proofs.CallLaws.{some-mem, mem-some}
 
 -- `has_marked`
 pub used-start : (used : List ℕ) (first : ℕ) → someUsed used first 0 ≡ false
@@ -70,23 +70,6 @@ module _ (used : List ℕ) (first : ℕ) where
       go (isFalse q) ih = (n, omega arith, eqb-false (getD used (first + n) 0) 0 q)
 
 -- ===== Neither equality nor a constant =====
-some-term : (t : ℕ) (ts : List ℕ) → mem eqb t ts ≡ true → isConstant t ≡ true → someOf isConstant ts ≡ true
-some-term t [] m e = clash m refl
-some-term t (x ∷ ts) m e = go (either (eqb t x) (mem eqb t ts) m) (some-term t ts)
-  where
-    go : Either (eqb t x) (mem eqb t ts) → (mem eqb t ts ≡ true → isConstant t ≡ true → someOf isConstant ts ≡ true) → (isConstant x || someOf isConstant ts) ≡ true
-    go (one q) ih = or-one _ _ (ap isConstant (sym (eqb-true t x q)) ∙ e)
-    go (other q) ih = or-other (isConstant x) _ (ih q e)
-
-term-some : (ts : List ℕ) → someOf isConstant ts ≡ true → (t : ℕ) × (mem eqb t ts ≡ true) × (isConstant t ≡ true)
-term-some [] e = clash e refl
-term-some (x ∷ ts) e = go (either (isConstant x) (someOf isConstant ts) e) (term-some ts)
-  where
-    go : Either (isConstant x) (someOf isConstant ts) → (someOf isConstant ts ≡ true → (t : ℕ) × (mem eqb t ts ≡ true) × (isConstant t ≡ true))
-        → (t : ℕ) × (mem eqb t (x ∷ ts) ≡ true) × (isConstant t ≡ true)
-    go (one q) ih = (x, or-one (eqb x x) _ (eq-eqb x x refl), q)
-    go (other q) ih = let r = ih q in (r .0, or-other (eqb (r .0) x) _ (r .1), r .2)
-
 abbrev node : Bool → Bool → Bool → Bool → Bool
 node a b x y = not a && (not b && (x && y))
 
@@ -129,7 +112,7 @@ general-true ar (branch l t f) n o h c = go (flag (someOf isConstant (termsOf ar
 
     go : Flag (someOf isConstant (termsOf ar (unpacked l))) → (((u : ℕ) → isConstant u ≡ true → occurs ar u t ≡ false) → isGeneral ar t ≡ true)
         → (((u : ℕ) → isConstant u ≡ true → occurs ar u f ≡ false) → isGeneral ar f ≡ true) → isGeneral ar (branch l t f) ≡ true
-    go (isTrue q) x y = let r = term-some (termsOf ar (unpacked l)) q in clash (occurs-branch ar (r .0) l t f ∙ or-one _ (occurs ar (r .0) t || occurs ar (r .0) f) (r .1)) (c (r .0) (r .2))
+    go (isTrue q) x y = let r = mem-some isConstant (termsOf ar (unpacked l)) q in clash (occurs-branch ar (r .0) l t f ∙ or-one _ (occurs ar (r .0) t || occurs ar (r .0) f) (r .1)) (c (r .0) (r .2))
     go (isFalse q) x y =
         general-branch ar l t f ∙ ap₂ (λ (a b : Bool). node a b (isGeneral ar t) (isGeneral ar f)) (high-label l (omega (arith, o .0))) q
         ∙ ap₂ (λ (a b : Bool). a && b) (x none-high) (y none-low)
@@ -159,7 +142,7 @@ general-constant ar u c (branch l t f) e =
 
     go : Either (mem eqb u (termsOf ar (unpacked l))) (occurs ar u t || occurs ar u f) → (occurs ar u t ≡ true → isGeneral ar t ≡ false) → (occurs ar u f ≡ true → isGeneral ar f ≡ false)
         → node (eqb (predicateOf l) equality) (someOf isConstant (termsOf ar (unpacked l))) (isGeneral ar t) (isGeneral ar f) ≡ false
-    go (one q) x y = all .1 (some-term u (termsOf ar (unpacked l)) q c)
+    go (one q) x y = all .1 (some-mem isConstant u (termsOf ar (unpacked l)) q c)
     go (other q) x y = below-it (either (occurs ar u t) _ q) x y
 
 -- `has_kinds`
@@ -267,10 +250,10 @@ module _ {ar ws used : List ℕ} {n : ℕ} (g : Markable ar ws used n) where
       plain-is = w ∙ marked-plain ar d used (g .marks)
 
       pub kinds-minimum : not p ≡ true → true ≡ hasKinds ar d
-      kinds-minimum e = kinds-some ar d (inr (sym plain-is ∙ not-taken p e))
+      kinds-minimum e = kinds-some ar d (inr (sym plain-is ∙ not-true p e))
 
       pub kinds-no : predicateWeight ≤ L → b ≡ false → not p ≡ false → false ≡ hasKinds ar d
-      kinds-no h z e = kinds-none ar d (general-yes h z) (sym plain-is ∙ not-left p e)
+      kinds-no h z e = kinds-none ar d (general-yes h z) (sym plain-is ∙ not-false p e)
 
 -- `has_parameter`
 module _ (ar used : List ℕ) (x : Diagram) (u : Used ar x used) where

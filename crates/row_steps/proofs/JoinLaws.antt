@@ -1,13 +1,13 @@
 -- Laws of one combination of two rows, names shared.
-use mathlib.Core.Path.{_≡_, sym, subst, _∙_}
-use mathlib.Core.Bool.{true, false}
+use mathlib.Core.Path.{_≡_, refl, sym, ap, subst, _∙_}
+use mathlib.Core.Bool.{false}
 use mathlib.Core.List.{List}
-use Prim.Native.Nat.{ℕ, _≤_, _<_}
+use Prim.Native.Nat.{ℕ, _≤_}
 use native.Mathlib.Omega.{arith}
-use lib.ListN.{length, take}
-use lib.Dec.{ltb}
-use borrow.Author.Tests.{ltb-true, ltb-false}
+use borrow.Author.Tests.{ltb-false}
+use Rattle.refusal.specs.declared.Refusal.{Refusal}
 use Rattle.refusal.specs.declared.Refusal.the-variants.{Space as NoSpace, Pairs as ManyPairs, Value as HighValue}
+use Rattle.refusal.specs.Outcome.{refused}
 use Rattle.basics.specs.Tests.{Flag, isTrue, isFalse, flag}
 use Rattle.diagram.specs.Sizes.{highestValue, spaceRows, mostPairs}
 use Rattle.diagram.specs.Diagram.{Diagram, same}
@@ -17,7 +17,7 @@ use Rattle.apply.specs.declared.Operation.{Operation}
 use Rattle.apply.specs.Combination.{operate}
 use Rattle.apply.specs.Apply.{node, apply}
 use Rattle.apply.specs.ApplyLaws.{node-same, node-differ, apply-step}
-use Rattle.apply.specs.Pairs.{pairs, pairCount, overflows}
+use Rattle.apply.specs.Pairs.{pairs, overflows}
 use Rattle.apply.specs.Course.{Course, stops, descends, course, ending}
 use Rattle.apply.specs.OverflowLaws.{calm-root, calm-true, calm-false}
 use Rattle.store.specs.Space.{diagramsOf, Holds}
@@ -25,12 +25,14 @@ use Rattle.store.proofs.SpaceLaws.{formed-room}
 use Rattle.regression.specs.Calls.{combine}
 use Rattle.regression.specs.CallLaws.{form-space, combine-pairs, combine-value, combine-calm}
 use Rattle.regression.specs.Result.{AtMost}
-use Rattle.combine.specs.Joining.{rowsAfter, joinAnswer, countAfter, diagramsAfter, Joint}
+use Rattle.combine.specs.Joining.{rowsAfter, countAfter, diagramsAfter, Joint}
+use Rattle.combine.specs.Endings.{Told, Ended, many, high, full, row, ended}
 use Rattle.combine.specs.declared.Joined.{Joined}
-use Rattle.combine.specs.declared.Joined.the-variants.{At, TooManyPairs, TooHighValue, NoRoom}
+use Rattle.combine.specs.declared.Joined.the-variants.{At}
+use Rattle.row_steps.specs.declared.Stepped.{Stepped}
 use Rattle.row_steps.specs.declared.Stepped.the-variants.{Row, Refused}
-use Rattle.row_steps.specs.Running.{Valued, Ran}
-use Rattle.row_steps.specs.RunLaws.{formed-ran, valued-onto, valued-take}
+use Rattle.row_steps.specs.Running.{Valued, Final, toldAs, Ran}
+use Rattle.row_steps.specs.RunLaws.{formed-ran, valued-onto, valued-take, ran-answer}
 
 -- leaves in their range
 most-node : (b l : ℕ) (t f : Diagram) → AtMost b t → AtMost b f → AtMost b (node l t f)
@@ -52,65 +54,6 @@ most-apply : (op : Operation) (a b : Diagram) → overflows (operate op) (pairs 
 most-apply op a b h = most-course op (course op a b) h
 
 -- `join`
-module _ (limit : ℕ) (op : Operation) (a b : Diagram) (rs : List Diagram) where
-  answer-at : {i n p : ℕ} → At i n p ≡ joinAnswer op limit a b rs
-      → (pairCount op a b ≤ limit) × (overflows (operate op) (pairs op a b) ≡ false) × (length (rowsAfter op a b rs) ≤ spaceRows)
-      × (i ≡ index (apply (operate op) a b) (rowsAfter op a b rs)) × (n ≡ length (rowsAfter op a b rs))
-  unfolding joinAnswer
-  answer-at {i} {n} {p} e = go (flag (ltb limit (pairCount op a b))) (flag (overflows (operate op) (pairs op a b))) (flag (ltb spaceRows (length (rowsAfter op a b rs))))
-    where
-      go : Flag (ltb limit (pairCount op a b)) → Flag (overflows (operate op) (pairs op a b)) → Flag (ltb spaceRows (length (rowsAfter op a b rs)))
-          → (pairCount op a b ≤ limit) × (overflows (operate op) (pairs op a b) ≡ false) × (length (rowsAfter op a b rs) ≤ spaceRows)
-          × (i ≡ index (apply (operate op) a b) (rowsAfter op a b rs)) × (n ≡ length (rowsAfter op a b rs))
-      go (isTrue x) y z = let k : At i n p ≡ TooManyPairs = rw x at e in let w : _≡_ {A = ℕ} 0 1 = cc in absurd (omega arith)
-      go (isFalse x) (isTrue y) z = let k : At i n p ≡ TooHighValue = rw (x, y) at e in let w : _≡_ {A = ℕ} 0 1 = cc in absurd (omega arith)
-      go (isFalse x) (isFalse y) (isTrue z) = let k : At i n p ≡ NoRoom = rw (x, y, z) at e in let w : _≡_ {A = ℕ} 0 1 = cc in absurd (omega arith)
-      go (isFalse x) (isFalse y) (isFalse z) =
-          let k : At i n p ≡ At (index (apply (operate op) a b) (rowsAfter op a b rs)) (length (rowsAfter op a b rs)) (pairCount op a b) = rw (x, y, z) at e in
-          (ltb-false _ _ x, y, ltb-false _ _ z, (cc), (cc))
-
-  answer-many : TooManyPairs ≡ joinAnswer op limit a b rs → limit < pairCount op a b
-  unfolding joinAnswer
-  answer-many e = go (flag (ltb limit (pairCount op a b))) (flag (overflows (operate op) (pairs op a b))) (flag (ltb spaceRows (length (rowsAfter op a b rs))))
-    where
-      go : Flag (ltb limit (pairCount op a b)) → Flag (overflows (operate op) (pairs op a b)) → Flag (ltb spaceRows (length (rowsAfter op a b rs))) → limit < pairCount op a b
-      go (isTrue x) y z = ltb-true _ _ x
-      go (isFalse x) (isTrue y) z = let k : TooManyPairs ≡ TooHighValue = rw (x, y) at e in let w : _≡_ {A = ℕ} 0 1 = cc in absurd (omega arith)
-      go (isFalse x) (isFalse y) (isTrue z) = let k : TooManyPairs ≡ NoRoom = rw (x, y, z) at e in let w : _≡_ {A = ℕ} 0 1 = cc in absurd (omega arith)
-      go (isFalse x) (isFalse y) (isFalse z) =
-          let k : TooManyPairs ≡ At (index (apply (operate op) a b) (rowsAfter op a b rs)) (length (rowsAfter op a b rs)) (pairCount op a b) = rw (x, y, z) at e in
-          let w : _≡_ {A = ℕ} 0 1 = cc in
-          absurd (omega arith)
-
-  answer-high : TooHighValue ≡ joinAnswer op limit a b rs → (pairCount op a b ≤ limit) × (overflows (operate op) (pairs op a b) ≡ true)
-  unfolding joinAnswer
-  answer-high e = go (flag (ltb limit (pairCount op a b))) (flag (overflows (operate op) (pairs op a b))) (flag (ltb spaceRows (length (rowsAfter op a b rs))))
-    where
-      go : Flag (ltb limit (pairCount op a b)) → Flag (overflows (operate op) (pairs op a b)) → Flag (ltb spaceRows (length (rowsAfter op a b rs)))
-          → (pairCount op a b ≤ limit) × (overflows (operate op) (pairs op a b) ≡ true)
-      go (isTrue x) y z = let k : TooHighValue ≡ TooManyPairs = rw x at e in let w : _≡_ {A = ℕ} 0 1 = cc in absurd (omega arith)
-      go (isFalse x) (isTrue y) z = (ltb-false _ _ x, y)
-      go (isFalse x) (isFalse y) (isTrue z) = let k : TooHighValue ≡ NoRoom = rw (x, y, z) at e in let w : _≡_ {A = ℕ} 0 1 = cc in absurd (omega arith)
-      go (isFalse x) (isFalse y) (isFalse z) =
-          let k : TooHighValue ≡ At (index (apply (operate op) a b) (rowsAfter op a b rs)) (length (rowsAfter op a b rs)) (pairCount op a b) = rw (x, y, z) at e in
-          let w : _≡_ {A = ℕ} 0 1 = cc in
-          absurd (omega arith)
-
-  answer-none : NoRoom ≡ joinAnswer op limit a b rs
-      → (pairCount op a b ≤ limit) × (overflows (operate op) (pairs op a b) ≡ false) × (spaceRows < length (rowsAfter op a b rs))
-  unfolding joinAnswer
-  answer-none e = go (flag (ltb limit (pairCount op a b))) (flag (overflows (operate op) (pairs op a b))) (flag (ltb spaceRows (length (rowsAfter op a b rs))))
-    where
-      go : Flag (ltb limit (pairCount op a b)) → Flag (overflows (operate op) (pairs op a b)) → Flag (ltb spaceRows (length (rowsAfter op a b rs)))
-          → (pairCount op a b ≤ limit) × (overflows (operate op) (pairs op a b) ≡ false) × (spaceRows < length (rowsAfter op a b rs))
-      go (isTrue x) y z = let k : NoRoom ≡ TooManyPairs = rw x at e in let w : _≡_ {A = ℕ} 0 1 = cc in absurd (omega arith)
-      go (isFalse x) (isTrue y) z = let k : NoRoom ≡ TooHighValue = rw (x, y) at e in let w : _≡_ {A = ℕ} 0 1 = cc in absurd (omega arith)
-      go (isFalse x) (isFalse y) (isTrue z) = (ltb-false _ _ x, y, ltb-true _ _ z)
-      go (isFalse x) (isFalse y) (isFalse z) =
-          let k : NoRoom ≡ At (index (apply (operate op) a b) (rowsAfter op a b rs)) (length (rowsAfter op a b rs)) (pairCount op a b) = rw (x, y, z) at e in
-          let w : _≡_ {A = ℕ} 0 1 = cc in
-          absurd (omega arith)
-
 module _ {limit : ℕ} {op : Operation} {a b : Diagram} {s₀ : List ℕ} {count : ℕ} {r : Joined} {s heads links index : List ℕ} (most : limit ≤ mostPairs)
     (v : Valued (diagramsOf s₀ count)) (j : Joint op limit a b s₀ count r s heads links index) where
   abbrev D : Diagram
@@ -119,14 +62,18 @@ module _ {limit : ℕ} {op : Operation} {a b : Diagram} {s₀ : List ℕ} {count
   abbrev Rows : List Diagram
   Rows = rowsAfter op a b (diagramsOf s₀ count)
 
-  pub join-row : {i n p : ℕ} → r ≡ At i n p → Ran limit (combine op a b) s₀ count (Row i n) s heads links index
-  join-row {i} {n} {p} e =
-      let q = answer-at limit op a b (diagramsOf s₀ count) (sym e ∙ j .answer) in
-      let d : diagramsOf s n ≡ Rows = subst (λ (x : Joined). diagramsOf s (countAfter count x) ≡ diagramsAfter op a b (diagramsOf s₀ count) x) e (j .diagrams) in
-      let h : Holds s heads links n = subst (λ (x : Joined). Holds s heads links (countAfter count x)) e (j .holds) in
-      let f = formed-room s heads links Rows n (sym (q .4)) (subst (Written s) d (h .written)) (h .table) D i (sym (q .3)) in
-      let c = combine-calm op a b (diagramsOf s₀ count) (omega (arith, most, q .0)) (q .1) in
-      let z = formed-ran s₀ count D (most-apply op a b (q .1)) v (j .clean) f in
+  -- what the space holds, where the answer is known
+  holds : {y : Joined} → r ≡ y → Holds s heads links (countAfter count y)
+  holds e = subst (λ (x : Joined). Holds s heads links (countAfter count x)) e (j .holds)
+
+  diagrams : {y : Joined} → r ≡ y → diagramsOf s (countAfter count y) ≡ diagramsAfter op a b (diagramsOf s₀ count) y
+  diagrams e = subst (λ (x : Joined). diagramsOf s (countAfter count x) ≡ diagramsAfter op a b (diagramsOf s₀ count) x) e (j .diagrams)
+
+  result : {i n p : ℕ} → r ≡ At i n p → Told op limit a b (diagramsOf s₀ count) i n p → Ran limit (combine op a b) s₀ count (Row i n) s heads links index
+  result {i} {n} {p} e q =
+      let f = formed-room s heads links Rows n (sym (q .count)) (subst (Written s) (diagrams e) (holds e .written)) (holds e .table) D i (sym (q .row)) in
+      let c = combine-calm op a b (diagramsOf s₀ count) (omega (arith, most, q .few)) (q .calm) in
+      let z = formed-ran s₀ count D (most-apply op a b (q .calm)) v (j .clean) f in
       record {
         space = z .space;
         clean = z .clean;
@@ -134,43 +81,31 @@ module _ {limit : ℕ} {op : Operation} {a b : Diagram} {s₀ : List ℕ} {count
         refusal = λ w m x y. c ∙ z .refusal w m x y;
       }
 
-  pub join-many : r ≡ TooManyPairs → Ran limit (combine op a b) s₀ count (Refused ManyPairs count) s heads links index
-  join-many e =
-      let q = answer-many limit op a b (diagramsOf s₀ count) (sym e ∙ j .answer) in
-      let d : diagramsOf s count ≡ diagramsOf s₀ count = subst (λ (x : Joined). diagramsOf s (countAfter count x) ≡ diagramsAfter op a b (diagramsOf s₀ count) x) e (j .diagrams) in
-      let h : Holds s heads links count = subst (λ (x : Joined). Holds s heads links (countAfter count x)) e (j .holds) in
-      record {
-        space = record { holds = h; values = subst Valued (sym d) v };
-        clean = j .clean;
-        row = λ k m x. let z : _≡_ {A = ℕ} 0 1 = cc in absurd (omega arith);
-        refusal = λ w m x y.
-            let p : ManyPairs ≡ w = cc in
-            let all : limit ≡ mostPairs = y (sym p) in
-            rw (← p) (combine-pairs op a b (diagramsOf s₀ count) (omega (arith, all, q)));
-      }
+  -- refused for w, with n rows then
+  stopped : (w : Refusal) (n : ℕ) → Holds s heads links n → Valued (diagramsOf s n) → (Final limit w → combine op a b (diagramsOf s₀ count) ≡ refused w)
+      → Ran limit (combine op a b) s₀ count (Refused w n) s heads links index
+  stopped w n h u g = record {
+    space = record { holds = h; values = u };
+    clean = j .clean;
+    row = λ k m x. let z : _≡_ {A = ℕ} 0 1 = cc in absurd (omega arith);
+    refusal = λ o m x y. let p : o ≡ w = cc in rw p (g (λ q. y (p ∙ q)));
+  }
 
-  pub join-high : r ≡ TooHighValue → Ran limit (combine op a b) s₀ count (Refused HighValue count) s heads links index
-  join-high e =
-      let q = answer-high limit op a b (diagramsOf s₀ count) (sym e ∙ j .answer) in
-      let d : diagramsOf s count ≡ diagramsOf s₀ count = subst (λ (x : Joined). diagramsOf s (countAfter count x) ≡ diagramsAfter op a b (diagramsOf s₀ count) x) e (j .diagrams) in
-      let h : Holds s heads links count = subst (λ (x : Joined). Holds s heads links (countAfter count x)) e (j .holds) in
-      record {
-        space = record { holds = h; values = subst Valued (sym d) v };
-        clean = j .clean;
-        row = λ k m x. let z : _≡_ {A = ℕ} 0 1 = cc in absurd (omega arith);
-        refusal = λ w m x y. let p : HighValue ≡ w = cc in rw (← p) (combine-value op a b (diagramsOf s₀ count) (omega (arith, most, q .0)) (q .1));
-      }
+  pub joined : {x : Stepped} → x ≡ toldAs count r → Ran limit (combine op a b) s₀ count x s heads links index
+  joined {x} t = go (ended op limit a b (diagramsOf s₀ count) (j .answer))
+    where
+      told : {y : Joined} → r ≡ y → Ran limit (combine op a b) s₀ count (toldAs count y) s heads links index → Ran limit (combine op a b) s₀ count x s heads links index
+      told e z = ran-answer (sym (t ∙ ap (toldAs count) e)) z
 
-  pub join-none : r ≡ NoRoom → Ran limit (combine op a b) s₀ count (Refused NoSpace 2048) s heads links index
-  join-none e =
-      let q = answer-none limit op a b (diagramsOf s₀ count) (sym e ∙ j .answer) in
-      let d : diagramsOf s spaceRows ≡ take spaceRows Rows
-      = subst (λ (x : Joined). diagramsOf s (countAfter count x) ≡ diagramsAfter op a b (diagramsOf s₀ count) x) e (j .diagrams) in
-      let h : Holds s heads links spaceRows = subst (λ (x : Joined). Holds s heads links (countAfter count x)) e (j .holds) in
-      record {
-        space = record { holds = h; values = subst Valued (sym d) (valued-take spaceRows Rows (valued-onto D (diagramsOf s₀ count) (most-apply op a b (q .1)) v)) };
-        clean = j .clean;
-        row = λ k m x. let z : _≡_ {A = ℕ} 0 1 = cc in absurd (omega arith);
-        refusal = λ w m x y. let p : NoSpace ≡ w = cc in
-            rw (← p) (combine-calm op a b (diagramsOf s₀ count) (omega (arith, most, q .0)) (q .1) ∙ form-space D (diagramsOf s₀ count) (q .2));
-      }
+      go : Ended op limit a b (diagramsOf s₀ count) r → Ran limit (combine op a b) s₀ count x s heads links index
+      go (many e h) =
+          told e (stopped ManyPairs count (holds e) (subst Valued (sym (diagrams e)) v)
+          (λ y. let l = y refl in combine-pairs op a b (diagramsOf s₀ count) (omega arith)))
+      go (high e h o) =
+          told e (stopped HighValue count (holds e) (subst Valued (sym (diagrams e)) v)
+          (λ y. combine-value op a b (diagramsOf s₀ count) (omega (arith, most, h)) o))
+      go (full e h o l) =
+          told e (stopped NoSpace spaceRows (holds e)
+          (subst Valued (sym (diagrams e)) (valued-take spaceRows Rows (valued-onto D (diagramsOf s₀ count) (most-apply op a b o) v)))
+          (λ y. combine-calm op a b (diagramsOf s₀ count) (omega (arith, most, h)) o ∙ form-space D (diagramsOf s₀ count) l))
+      go (row e q) = told e (result e q)

@@ -1,5 +1,6 @@
 -- Laws of the code of the row step: one-row tests, 1 - T, and the step itself.
 use mathlib.Core.Path.{_≡_, refl, sym, ap, ap₂, subst, _∙_}
+use mathlib.Core.Logic.{_≢_}
 use mathlib.Core.Bool.{true}
 use mathlib.Core.List.{List}
 use Prim.Native.Nat.{ℕ, suc, _+_, _*_, _-_, _≤_, _<_}
@@ -13,6 +14,8 @@ use Rattle.refusal.specs.Numbers.{numberOf}
 use Rattle.basics.specs.Tests.{Cmp, below, equal, above, cmp}
 use Rattle.basics.specs.Members.{mem}
 use Rattle.basics.specs.Prefix.{Prefix, prefix-trans}
+use Rattle.table.specs.declared.Row.{Row as TableRow}
+use Rattle.table.specs.Rows.{rowAt}
 use Rattle.label.specs.Limits.{leafMark}
 use Rattle.label.specs.declared.Label.{Label}
 use Rattle.label.specs.declared.Test.{Test}
@@ -38,7 +41,7 @@ use Rattle.regression.specs.StepLaws.{most-test, most-exchanged}
 use Rattle.regression.specs.Result.{AtMost}
 use Rattle.row_steps.specs.declared.Stepped.{Stepped}
 use Rattle.row_steps.specs.declared.Stepped.the-variants.{Row, Refused}
-use Rattle.row_steps.specs.Running.{Ready, Two, Three, Four, splitStep, Gave, isCrowded, Ran, Noted, Exchangeable, Exchanged, Testable}
+use Rattle.row_steps.specs.Running.{Ready, Two, Three, Four, splitStep, Gave, isCrowded, Ran, Noted, notedFor, Notable, Exchangeable, Exchanged, Testable, testLeaves}
 use Rattle.row_steps.specs.RunLaws.{row-label, row-leaf, row-kids, row-branch, there-mem, formed-gave, formed-space, full-ran}
 use Rattle.row_steps.specs.RunLaws.{ran-bind, ran-stop, gave-old, leaf-onto, row-known, full-known, one-most, ran-cast, ran-answer}
 
@@ -141,18 +144,41 @@ module _ {s₀ heads₀ links₀ : List ℕ} {count : ℕ} (h : Holds s₀ heads
             → Formation (branch l (leaf v) (leaf w)) (onto (branch l (leaf v) (leaf w)) (diagramsOf s₀ count)) r s heads links
         pair-formed z = kid-formed h l b (leaf v) (leaf w) first second z
 
--- `form_test`
-pub test-always : (s₀ : List ℕ) (count : ℕ) {t : Test} {r : Formed} {s heads links : List ℕ} → t ≡ Always
-    → Formation (leaf 1) (add (leaf 1) (diagramsOf s₀ count)) r s heads links
-    → Formation (testDiagram t) (onto (testDiagram t) (diagramsOf s₀ count)) r s heads links
-unfolding testDiagram
-test-always s₀ count {t} {r} {s} {heads} {links} e f = rw e (leaf-onto s₀ count f)
+-- `form_leaves`
+pub leaves-always : (s₀ : List ℕ) (count : ℕ) {t : Test} {v : ℕ} (w : ℕ) {r : Formed} {s heads links : List ℕ} → t ≡ Always
+    → Formation (leaf v) (add (leaf v) (diagramsOf s₀ count)) r s heads links
+    → Formation (testLeaves t v w) (onto (testLeaves t v w) (diagramsOf s₀ count)) r s heads links
+unfolding testLeaves
+leaves-always s₀ count {t} {v} w {r} {s} {heads} {links} e f = rw e (leaf-onto s₀ count f)
 
-pub test-is : (s₀ : List ℕ) (count : ℕ) {t : Test} {l : Label} {r : Formed} {s heads links : List ℕ} → t ≡ Is l
-    → Formation (branch (l .packed) (leaf 1) (leaf 0)) (onto (branch (l .packed) (leaf 1) (leaf 0)) (diagramsOf s₀ count)) r s heads links
-    → Formation (testDiagram t) (onto (testDiagram t) (diagramsOf s₀ count)) r s heads links
-unfolding testDiagram
-test-is s₀ count {t} {l} {r} {s} {heads} {links} e f = rw e f
+pub leaves-is : (s₀ : List ℕ) (count : ℕ) {t : Test} {l : Label} {v w : ℕ} {r : Formed} {s heads links : List ℕ} → t ≡ Is l
+    → Formation (branch (l .packed) (leaf v) (leaf w)) (onto (branch (l .packed) (leaf v) (leaf w)) (diagramsOf s₀ count)) r s heads links
+    → Formation (testLeaves t v w) (onto (testLeaves t v w) (diagramsOf s₀ count)) r s heads links
+unfolding testLeaves
+leaves-is s₀ count {t} {l} {v} {w} {r} {s} {heads} {links} e f = rw e f
+
+-- `form_test` and `form_other`
+leaves-test : (t : Test) → testLeaves t 1 0 ≡ testDiagram t
+unfolding testLeaves testDiagram
+leaves-test Always = refl
+leaves-test (Is l) = refl
+
+leaves-other : (t : Test) → testLeaves t 0 1 ≡ exchanged (testDiagram t)
+unfolding testLeaves testDiagram exchanged
+leaves-other Always = refl
+leaves-other (Is l) = refl
+
+module _ (s₀ : List ℕ) (count : ℕ) (t : Test) {r : Formed} {s heads links : List ℕ} where
+  formed-as : {d e : Diagram} → d ≡ e → Formation d (onto d (diagramsOf s₀ count)) r s heads links → Formation e (onto e (diagramsOf s₀ count)) r s heads links
+  formed-as q f = subst (λ (d : Diagram). Formation d (onto d (diagramsOf s₀ count)) r s heads links) q f
+
+  pub test-formed : Formation (testLeaves t 1 0) (onto (testLeaves t 1 0) (diagramsOf s₀ count)) r s heads links
+      → Formation (testDiagram t) (onto (testDiagram t) (diagramsOf s₀ count)) r s heads links
+  test-formed f = formed-as (leaves-test t) f
+
+  pub other-formed : Formation (testLeaves t 0 1) (onto (testLeaves t 0 1) (diagramsOf s₀ count)) r s heads links
+      → Formation (exchanged (testDiagram t)) (onto (exchanged (testDiagram t)) (diagramsOf s₀ count)) r s heads links
+  other-formed f = formed-as (leaves-other t) f
 
 pub testable-label : {t : Test} {l : Label} → Testable t → t ≡ Is l → l .packed < leafMark
 testable-label {t} {l} p e = p .label l e
@@ -193,7 +219,12 @@ noted-more {s} {memo} {n} {i} {j} q a c b e = record { places = rw length-set (q
         let w : m ≡ j = omega arith in
         (omega arith, omega arith, ap (tree s) w ∙ e ∙ ap (λ (z : ℕ). exchanged (tree s z)) (sym d))
 
-pub row-small : {d : Diagram} {rs : List Diagram} {j n : ℕ} {s heads links : List ℕ} → Formation d rs (FormedRow j n) s heads links → mem same d rs ≡ true → j + 1 < 65536
+-- `note`
+pub row-noted : (i : ℕ) (memo : List ℕ) {r : Formed} {j n : ℕ} → r ≡ FormedRow j n → (FormedRow j n ≡ r) × (set memo i (j + 1) ≡ notedFor i r memo)
+row-noted i memo e = (sym e, sym (ap (λ (y : Formed). notedFor i y memo) e))
+
+-- `exchange`: a row that was formed
+row-small : {d : Diagram} {rs : List Diagram} {j n : ℕ} {s heads links : List ℕ} → Formation d rs (FormedRow j n) s heads links → mem same d rs ≡ true → j + 1 < 65536
 row-small f m = omega (arith, formation-tree f m .0, f .holds .table .within)
 
 -- the note of a row that was formed, where n₂ rows and their notes were there before
@@ -205,7 +236,7 @@ noting {d} {rs} {j} {n} {s} {heads} {links} {s₂} {memo₂} {n₂} {i} f m b q 
     noted-more (noted-later o q) (o i a .0) c (t .0) (t .1 ∙ e ∙ ap exchanged (sym (o i a .1)))
 
 module _ {s heads links memo : List ℕ} {count i : ℕ} (x : Exchangeable s heads links memo count i) where
-  pub small-row : i < spaceRows
+  small-row : i < spaceRows
   small-row = omega (arith, x .row, x .holds .table .within)
 
   pub memo-room : i < length memo
@@ -227,134 +258,132 @@ module _ {s heads links memo : List ℕ} {count i : ℕ} (x : Exchangeable s hea
       there : mem same (exchanged (tree s i)) (diagramsOf s count) ≡ true
       there = subst (λ (d : Diagram). mem same d (diagramsOf s count) ≡ true) (z .2) (there-mem (x .holds) (k - 1) (z .1))
 
-  -- a leaf
-  module _ (m : getD s (i * 3) 0 ≡ leafMark) {v : ℕ} (q : v ≡ 1 - getD s (i * 3 + 1) 0) {r : Formed} {s′ heads′ links′ : List ℕ}
-      (f : Formation (leaf v) (add (leaf v) (diagramsOf s count)) r s′ heads′ links′) where
-    leaf-is : leaf v ≡ exchanged (tree s i)
-    unfolding labelAt highAt
-    leaf-is = ap leaf q ∙ sym (ap exchanged (row-leaf (x .holds) i (x .row) m) ∙ exchanged-leaf (highAt s i))
-
-    leaf-formation : Formation (exchanged (tree s i)) (onto (exchanged (tree s i)) (diagramsOf s count)) r s′ heads′ links′
-    leaf-formation = subst (λ (d : Diagram). Formation d (onto d (diagramsOf s count)) r s′ heads′ links′) leaf-is (leaf-onto s count f)
-
-    pub exchange-leaf-full : r ≡ Full → Exchanged s count i Full s′ heads′ links′ memo
-    exchange-leaf-full e = record {
-      formation = full-known leaf-formation e;
-      noted = λ j n z. let w : _≡_ {A = ℕ} 0 1 = cc in absurd (omega arith);
+  -- the row of 1 - T is formed behind n₂ rows and their notes, and noted
+  module _ {s₂ memo₂ : List ℕ} {n₂ : ℕ} (q : Noted s₂ memo₂ n₂) (o : (i < n₂) × (tree s₂ i ≡ tree s i)) {r : Formed} {s′ heads′ links′ : List ℕ}
+      (f : Formation (exchanged (tree s i)) (onto (exchanged (tree s i)) (diagramsOf s count)) r s′ heads′ links′)
+      (b : Prefix (diagramsOf s₂ n₂) (onto (exchanged (tree s i)) (diagramsOf s count))) where
+    formed-notable : Notable memo₂ i r
+    formed-notable = record {
+      place = omega (arith, small-row, q .places);
+      small = λ j n e. row-small (row-known f e) (onto-mem (exchanged (tree s i)) (diagramsOf s count));
     }
 
-    module _ {j n : ℕ} (e : r ≡ FormedRow j n) where
-      pub exchange-leaf : Exchanged s count i (FormedRow j n) s′ heads′ links′ (set memo i (j + 1))
-      exchange-leaf = record {
-        formation = row-known leaf-formation e;
-        noted = λ k c z.
-            let w : n ≡ c = cc in
-            subst (Noted s′ (set memo i (j + 1))) w (noting (row-known leaf-formation e) (onto-mem (exchanged (tree s i)) (diagramsOf s count))
-            (onto-keeps (exchanged (tree s i)) (diagramsOf s count)) (x .noted) (x .row) small-row refl);
-      }
+    formed-noted : {a : Formed} {memo′ : List ℕ} → (a ≡ r) × (memo′ ≡ notedFor i r memo₂) → Exchanged s count i a s′ heads′ links′ memo′
+    formed-noted {a} {memo′} e = record {
+      formation = subst (λ (z : Formed). Formation (exchanged (tree s i)) (onto (exchanged (tree s i)) (diagramsOf s count)) z s′ heads′ links′) (sym (e .0)) f;
+      noted = λ j n z.
+          let w : r ≡ FormedRow j n = sym (e .0) ∙ z in
+          subst (λ (m : List ℕ). Noted s′ m n) (sym (e .1 ∙ ap (λ (y : Formed). notedFor i y memo₂) w))
+          (noting (row-known f w) (onto-mem (exchanged (tree s i)) (diagramsOf s count)) b q (o .0) small-row (ap exchanged (sym (o .1))));
+    }
 
-      pub exchange-leaf-small : j + 1 < 65536
-      exchange-leaf-small = row-small (row-known leaf-formation e) (onto-mem (exchanged (tree s i)) (diagramsOf s count))
+  module _ {row : TableRow} (d : row ≡ rowAt s i) where
+    label-is : row .label ≡ labelAt s i
+    unfolding rowAt labelAt
+    label-is = ap (λ (z : TableRow). z .label) d
 
-  -- a branch
-  module _ (m : getD s (i * 3) 0 ≡ leafMark → ⊥) where
-    kids : (getD s (i * 3 + 1) 0 < i) × (getD s (i * 3 + 2) 0 < i)
-    unfolding labelAt highAt lowAt
-    kids = row-kids (x .holds) i (x .row) m
+    high-is : row .high ≡ highAt s i
+    unfolding rowAt highAt
+    high-is = ap (λ (z : TableRow). z .high) d
 
-    label-less : getD s (i * 3) 0 < leafMark
-    unfolding labelAt
-    label-less = let q = row-label (x .holds) i (x .row) in let w : getD s (i * 3) 0 ≡ leafMark → ⊥ = m in omega arith
+    low-is : row .low ≡ lowAt s i
+    unfolding rowAt lowAt
+    low-is = ap (λ (z : TableRow). z .low) d
 
-    branch-is : branch (getD s (i * 3) 0) (exchanged (tree s (getD s (i * 3 + 1) 0))) (exchanged (tree s (getD s (i * 3 + 2) 0))) ≡ exchanged (tree s i)
-    unfolding labelAt highAt lowAt
-    branch-is = sym (ap exchanged (row-branch (x .holds) i (x .row) m) ∙ exchanged-branch (labelAt s i) (tree s (highAt s i)) (tree s (lowAt s i)))
+    -- a leaf
+    module _ (m : row .label ≡ leafMark) {v : ℕ} (q : v ≡ 1 - row .high) {r : Formed} {s′ heads′ links′ : List ℕ}
+        (f : Formation (leaf v) (add (leaf v) (diagramsOf s count)) r s′ heads′ links′) where
+      leaf-is : leaf v ≡ exchanged (tree s i)
+      leaf-is = ap leaf (q ∙ ap (1 -_) high-is) ∙ sym (ap exchanged (row-leaf (x .holds) i (x .row) (sym label-is ∙ m)) ∙ exchanged-leaf (highAt s i))
 
-    as-branch : {r : Formed} {s′ heads′ links′ : List ℕ}
-        → Formation (branch (getD s (i * 3) 0) (exchanged (tree s (getD s (i * 3 + 1) 0))) (exchanged (tree s (getD s (i * 3 + 2) 0))))
-        (onto (branch (getD s (i * 3) 0) (exchanged (tree s (getD s (i * 3 + 1) 0))) (exchanged (tree s (getD s (i * 3 + 2) 0)))) (diagramsOf s count)) r s′ heads′ links′
-        → Formation (exchanged (tree s i)) (onto (exchanged (tree s i)) (diagramsOf s count)) r s′ heads′ links′
-    as-branch {r} {s′} {heads′} {links′} f = subst (λ (d : Diagram). Formation d (onto d (diagramsOf s count)) r s′ heads′ links′) branch-is f
+      leaf-formation : Formation (exchanged (tree s i)) (onto (exchanged (tree s i)) (diagramsOf s count)) r s′ heads′ links′
+      leaf-formation = subst (λ (y : Diagram). Formation y (onto y (diagramsOf s count)) r s′ heads′ links′) leaf-is (leaf-onto s count f)
 
-    pub exchange-less : getD s (i * 3 + 1) 0 < i
-    exchange-less = kids .0
+      pub leaf-notable : Notable memo i r
+      leaf-notable = formed-notable (x .noted) (x .row, refl) leaf-formation (onto-begins (exchanged (tree s i)) (diagramsOf s count))
 
-    pub exchange-less-2 : getD s (i * 3 + 2) 0 < i
-    exchange-less-2 = kids .1
+      pub exchange-leaf : {a : Formed} {memo′ : List ℕ} → (a ≡ r) × (memo′ ≡ notedFor i r memo) → Exchanged s count i a s′ heads′ links′ memo′
+      exchange-leaf e = formed-noted (x .noted) (x .row, refl) leaf-formation (onto-begins (exchanged (tree s i)) (diagramsOf s count)) e
 
-    pub exchange-high : Exchangeable s heads links memo count (getD s (i * 3 + 1) 0)
-    exchange-high = record { holds = x .holds; noted = x .noted; row = omega (arith, kids .0, x .row) }
+    -- a branch
+    module _ (m : row .label ≡ leafMark → ⊥) where
+      branch-row : labelAt s i ≢ leafMark
+      branch-row e = m (label-is ∙ e)
 
-    module _ {r₁ : Formed} {s₁ heads₁ links₁ memo₁ : List ℕ} (x₁ : Exchanged s count (getD s (i * 3 + 1) 0) r₁ s₁ heads₁ links₁ memo₁) where
-      pub exchange-high-full : r₁ ≡ Full → Exchanged s count i Full s₁ heads₁ links₁ memo₁
-      exchange-high-full e = record {
-        formation = as-branch (high-full (x .holds) (getD s (i * 3) 0) _ _ (full-known (x₁ .formation) e));
-        noted = λ j n z. let w : _≡_ {A = ℕ} 0 1 = cc in absurd (omega arith);
-      }
+      pub kids : (row .high < i) × (row .low < i)
+      kids = let k = row-kids (x .holds) i (x .row) branch-row in (omega (arith, high-is, k .0), omega (arith, low-is, k .1))
 
-      module _ {i₁ n₁ : ℕ} (e₁ : r₁ ≡ FormedRow i₁ n₁) where
-        g₁ : Grew s count (exchanged (tree s (getD s (i * 3 + 1) 0))) i₁ n₁ s₁
-        g₁ = grew (row-known (x₁ .formation) e₁)
+      label-less : row .label < leafMark
+      label-less = let q = row-label (x .holds) i (x .row) in omega (arith, label-is)
 
-        low-same : tree s₁ (getD s (i * 3 + 2) 0) ≡ tree s (getD s (i * 3 + 2) 0)
-        low-same = g₁ .old (getD s (i * 3 + 2) 0) (omega (arith, kids .1, x .row)) .1
+      branch-is : branch (row .label) (exchanged (tree s (row .high))) (exchanged (tree s (row .low))) ≡ exchanged (tree s i)
+      branch-is =
+          (λ j. branch (label-is j) (exchanged (tree s (high-is j))) (exchanged (tree s (low-is j))))
+          ∙ sym (ap exchanged (row-branch (x .holds) i (x .row) branch-row) ∙ exchanged-branch (labelAt s i) (tree s (highAt s i)) (tree s (lowAt s i)))
 
-        pub exchange-low : Exchangeable s₁ heads₁ links₁ memo₁ n₁ (getD s (i * 3 + 2) 0)
-        exchange-low = record {
-          holds = row-known (x₁ .formation) e₁ .holds;
-          noted = x₁ .noted i₁ n₁ e₁;
-          row = g₁ .old (getD s (i * 3 + 2) 0) (omega (arith, kids .1, x .row)) .0;
+      as-branch : {r : Formed} {s′ heads′ links′ : List ℕ}
+          → Formation (branch (row .label) (exchanged (tree s (row .high))) (exchanged (tree s (row .low))))
+          (onto (branch (row .label) (exchanged (tree s (row .high))) (exchanged (tree s (row .low)))) (diagramsOf s count)) r s′ heads′ links′
+          → Formation (exchanged (tree s i)) (onto (exchanged (tree s i)) (diagramsOf s count)) r s′ heads′ links′
+      as-branch {r} {s′} {heads′} {links′} f = subst (λ (y : Diagram). Formation y (onto y (diagramsOf s count)) r s′ heads′ links′) branch-is f
+
+      pub exchange-high : Exchangeable s heads links memo count (row .high)
+      exchange-high = record { holds = x .holds; noted = x .noted; row = omega (arith, kids .0, x .row) }
+
+      module _ {r₁ : Formed} {s₁ heads₁ links₁ memo₁ : List ℕ} (x₁ : Exchanged s count (row .high) r₁ s₁ heads₁ links₁ memo₁) where
+        pub exchange-high-full : r₁ ≡ Full → Exchanged s count i Full s₁ heads₁ links₁ memo₁
+        exchange-high-full e = record {
+          formation = as-branch (high-full (x .holds) (row .label) _ _ (full-known (x₁ .formation) e));
+          noted = λ j n z. let w : _≡_ {A = ℕ} 0 1 = cc in absurd (omega arith);
         }
 
-        module _ {r₂ : Formed} {s₂ heads₂ links₂ memo₂ : List ℕ} (x₂ : Exchanged s₁ n₁ (getD s (i * 3 + 2) 0) r₂ s₂ heads₂ links₂ memo₂) where
-          f₂ : Formation (exchanged (tree s (getD s (i * 3 + 2) 0))) (onto (exchanged (tree s (getD s (i * 3 + 2) 0))) (diagramsOf s₁ n₁)) r₂ s₂ heads₂ links₂
-          f₂ = subst (λ (d : Diagram). Formation (exchanged d) (onto (exchanged d) (diagramsOf s₁ n₁)) r₂ s₂ heads₂ links₂) low-same (x₂ .formation)
+        module _ {i₁ n₁ : ℕ} (e₁ : r₁ ≡ FormedRow i₁ n₁) where
+          g₁ : Grew s count (exchanged (tree s (row .high))) i₁ n₁ s₁
+          g₁ = grew (row-known (x₁ .formation) e₁)
 
-          pub exchange-low-full : r₂ ≡ Full → Exchanged s count i Full s₂ heads₂ links₂ memo₂
-          exchange-low-full e = record {
-            formation = as-branch (low-full (x .holds) (getD s (i * 3) 0) _ _ g₁ (full-known f₂ e));
-            noted = λ j n z. let w : _≡_ {A = ℕ} 0 1 = cc in absurd (omega arith);
-          }
+          low-stays : (row .low < n₁) × (tree s₁ (row .low) ≡ tree s (row .low))
+          low-stays = g₁ .old (row .low) (omega (arith, kids .1, x .row))
 
-          module _ {i₂ n₂ : ℕ} (e₂ : r₂ ≡ FormedRow i₂ n₂) where
-            g₂ : Grew s₁ n₁ (exchanged (tree s (getD s (i * 3 + 2) 0))) i₂ n₂ s₂
-            g₂ = grew (row-known f₂ e₂)
+          pub exchange-low : Exchangeable s₁ heads₁ links₁ memo₁ n₁ (row .low)
+          exchange-low = record { holds = row-known (x₁ .formation) e₁ .holds; noted = x₁ .noted i₁ n₁ e₁; row = low-stays .0 }
 
-            pub exchange-holds : Holds s₂ heads₂ links₂ n₂
-            exchange-holds = row-known f₂ e₂ .holds
+          module _ {r₂ : Formed} {s₂ heads₂ links₂ memo₂ : List ℕ} (x₂ : Exchanged s₁ n₁ (row .low) r₂ s₂ heads₂ links₂ memo₂) where
+            f₂ : Formation (exchanged (tree s (row .low))) (onto (exchanged (tree s (row .low))) (diagramsOf s₁ n₁)) r₂ s₂ heads₂ links₂
+            f₂ = subst (λ (y : Diagram). Formation (exchanged y) (onto (exchanged y) (diagramsOf s₁ n₁)) r₂ s₂ heads₂ links₂) (low-stays .1) (x₂ .formation)
 
-            pub exchange-formable : Formable n₂ (record { label = getD s (i * 3) 0; high = i₁; low = i₂ })
-            exchange-formable = kid-formable (x .holds) (getD s (i * 3) 0) label-less _ _ g₁ g₂
+            pub exchange-low-full : r₂ ≡ Full → Exchanged s count i Full s₂ heads₂ links₂ memo₂
+            exchange-low-full e = record {
+              formation = as-branch (low-full (x .holds) (row .label) _ _ g₁ (full-known f₂ e));
+              noted = λ j n z. let w : _≡_ {A = ℕ} 0 1 = cc in absurd (omega arith);
+            }
 
-            module _ {r : Formed} {s′ heads′ links′ : List ℕ}
-                (f : Formation (standsFor s₂ (record { label = getD s (i * 3) 0; high = i₁; low = i₂ }))
-                (add (standsFor s₂ (record { label = getD s (i * 3) 0; high = i₁; low = i₂ })) (diagramsOf s₂ n₂)) r s′ heads′ links′) where
-              whole : Formation (exchanged (tree s i)) (onto (exchanged (tree s i)) (diagramsOf s count)) r s′ heads′ links′
-              whole = as-branch (kid-formed (x .holds) (getD s (i * 3) 0) label-less _ _ g₁ g₂ f)
+            module _ {i₂ n₂ : ℕ} (e₂ : r₂ ≡ FormedRow i₂ n₂) where
+              g₂ : Grew s₁ n₁ (exchanged (tree s (row .low))) i₂ n₂ s₂
+              g₂ = grew (row-known f₂ e₂)
 
-              pub exchange-branch-full : r ≡ Full → Exchanged s count i Full s′ heads′ links′ memo₂
-              exchange-branch-full e = record {
-                formation = full-known whole e;
-                noted = λ j n z. let w : _≡_ {A = ℕ} 0 1 = cc in absurd (omega arith);
-              }
+              pub exchange-holds : Holds s₂ heads₂ links₂ n₂
+              exchange-holds = row-known f₂ e₂ .holds
 
-              module _ {j n : ℕ} (e : r ≡ FormedRow j n) where
-                stays : (k : ℕ) → k < count → (k < n₂) × (tree s₂ k ≡ tree s k)
-                stays k l = let a = g₁ .old k l in let b = g₂ .old k (a .0) in (b .0, b .1 ∙ a .1)
+              pub exchange-formable : Formable n₂ (record { label = row .label; high = i₁; low = i₂ })
+              exchange-formable = kid-formable (x .holds) (row .label) label-less _ _ g₁ g₂
 
-                pub exchange-branch : Exchanged s count i (FormedRow j n) s′ heads′ links′ (set memo₂ i (j + 1))
-                exchange-branch = record {
-                  formation = row-known whole e;
-                  noted = λ k c z.
-                      let w : n ≡ c = cc in
-                      subst (Noted s′ (set memo₂ i (j + 1))) w (noting (row-known whole e) (onto-mem (exchanged (tree s i)) (diagramsOf s count))
-                      (subst (Prefix (diagramsOf s₂ n₂)) (ap (λ (d : Diagram). onto d (diagramsOf s count)) branch-is)
-                      (kid-begins (x .holds) (getD s (i * 3) 0) label-less _ _ g₁ g₂))
-                      (x₂ .noted i₂ n₂ e₂) (stays i (x .row) .0) small-row (ap exchanged (sym (stays i (x .row) .1))));
-                }
+              stays : (i < n₂) × (tree s₂ i ≡ tree s i)
+              stays = let a = g₁ .old i (x .row) in let b = g₂ .old i (a .0) in (b .0, b .1 ∙ a .1)
 
-                pub exchange-branch-small : j + 1 < 65536
-                exchange-branch-small = row-small (row-known whole e) (onto-mem (exchanged (tree s i)) (diagramsOf s count))
+              begins : Prefix (diagramsOf s₂ n₂) (onto (exchanged (tree s i)) (diagramsOf s count))
+              begins = subst (Prefix (diagramsOf s₂ n₂)) (ap (λ (y : Diagram). onto y (diagramsOf s count)) branch-is) (kid-begins (x .holds) (row .label) label-less _ _ g₁ g₂)
+
+              module _ {r : Formed} {s′ heads′ links′ : List ℕ}
+                  (f : Formation (standsFor s₂ (record { label = row .label; high = i₁; low = i₂ }))
+                  (add (standsFor s₂ (record { label = row .label; high = i₁; low = i₂ })) (diagramsOf s₂ n₂)) r s′ heads′ links′) where
+                whole : Formation (exchanged (tree s i)) (onto (exchanged (tree s i)) (diagramsOf s count)) r s′ heads′ links′
+                whole = as-branch (kid-formed (x .holds) (row .label) label-less _ _ g₁ g₂ f)
+
+                pub branch-notable : Notable memo₂ i r
+                branch-notable = formed-notable (x₂ .noted i₂ n₂ e₂) stays whole begins
+
+                pub exchange-branch : {a : Formed} {memo′ : List ℕ} → (a ≡ r) × (memo′ ≡ notedFor i r memo₂) → Exchanged s count i a s′ heads′ links′ memo′
+                exchange-branch e = formed-noted (x₂ .noted i₂ n₂ e₂) stays whole begins e
 
 -- `one_minus`
 never : {P : Type 0} (n k j : ℕ) → k < n → _≡_ {A = ℕ} (getD (replicate n 0) k 0) (suc j) → P
@@ -366,19 +395,6 @@ none-noted {s} {heads} {links} {count} {i} n l h r = record {
   noted = record { places = rw length-replicate l; each = λ k j q e. never n k j (omega arith) e };
   row = r;
 }
-
--- `form_other`
-pub other-always : (s₀ : List ℕ) (count : ℕ) {t : Test} {r : Formed} {s heads links : List ℕ} → t ≡ Always
-    → Formation (leaf 0) (add (leaf 0) (diagramsOf s₀ count)) r s heads links
-    → Formation (exchanged (testDiagram t)) (onto (exchanged (testDiagram t)) (diagramsOf s₀ count)) r s heads links
-unfolding testDiagram exchanged
-other-always s₀ count {t} {r} {s} {heads} {links} e f = rw e (leaf-onto s₀ count f)
-
-pub other-is : (s₀ : List ℕ) (count : ℕ) {t : Test} {l : Label} {r : Formed} {s heads links : List ℕ} → t ≡ Is l
-    → Formation (branch (l .packed) (leaf 0) (leaf 1)) (onto (branch (l .packed) (leaf 0) (leaf 1)) (diagramsOf s₀ count)) r s heads links
-    → Formation (exchanged (testDiagram t)) (onto (exchanged (testDiagram t)) (diagramsOf s₀ count)) r s heads links
-unfolding testDiagram exchanged
-other-is s₀ count {t} {l} {r} {s} {heads} {links} e f = rw e f
 
 -- `split_step`
 abbrev rights : Diagram → Diagram → Diagram → Run Diagram

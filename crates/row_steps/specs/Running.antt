@@ -2,29 +2,31 @@
 use mathlib.Core.Path.{_≡_}
 use mathlib.Core.Bool.{Bool, true, false}
 use mathlib.Core.List.{List}
-use Prim.Native.Nat.{ℕ, suc, _*_, _≤_, _<_}
-use lib.ListN.{length, getD}
+use Prim.Native.Nat.{ℕ, suc, _+_, _*_, _≤_, _<_}
+use lib.ListN.{length, getD, set}
 use lib.Dec.{eqb}
 use Rattle.refusal.specs.declared.Refusal.{Refusal}
-use Rattle.refusal.specs.declared.Refusal.the-variants.{Pairs}
+use Rattle.refusal.specs.declared.Refusal.the-variants.{Space as NoSpace, Pairs, Value}
 use Rattle.refusal.specs.Numbers.{numberOf}
 use Rattle.refusal.specs.Outcome.{ok, refused}
 use Rattle.basics.specs.Members.{mem}
 use Rattle.label.specs.Limits.{leafMark}
 use Rattle.label.specs.declared.Label.{Label}
 use Rattle.label.specs.declared.Test.{Test}
-use Rattle.label.specs.declared.Test.the-variants.{Is}
+use Rattle.label.specs.declared.Test.the-variants.{Always, Is}
 use Rattle.diagram.specs.Sizes.{highestValue, spaceRows, mostPairs}
-use Rattle.diagram.specs.Diagram.{Diagram, leaf, same}
+use Rattle.diagram.specs.Diagram.{Diagram, leaf, branch, same}
 use Rattle.diagram.specs.Rows.{onto}
 use Rattle.diagram.specs.Validity.{tree}
 use Rattle.apply.specs.declared.Operation.the-variants.{Sum, Product}
 use Rattle.plan.specs.Plan.{Clean}
 use Rattle.store.specs.declared.Formed.{Formed}
-use Rattle.store.specs.declared.Formed.the-variants.{Row as FormedRow}
+use Rattle.store.specs.declared.Formed.the-variants.{Row as FormedRow, Full}
 use Rattle.store.specs.Space.{diagramsOf, Holds, Formation}
 use Rattle.regression.specs.Calls.{Run, bind, combine}
 use Rattle.regression.specs.Step.{exchanged}
+use Rattle.combine.specs.declared.Joined.{Joined}
+use Rattle.combine.specs.declared.Joined.the-variants.{At, TooManyPairs, TooHighValue, NoRoom}
 use Rattle.row_steps.specs.declared.Stepped.{Stepped}
 use Rattle.row_steps.specs.declared.Stepped.the-variants.{Row, Refused}
 
@@ -82,6 +84,13 @@ countThen (Refused w n) = n
 abbrev pub Final : ℕ → Refusal → Type 0
 Final limit w = w ≡ Pairs → limit ≡ mostPairs
 
+-- what a combination in a space of `count` rows says as a step
+abbrev pub toldAs : ℕ → Joined → Stepped
+toldAs count (At i n p) = Row i n
+toldAs count TooManyPairs = Refused Pairs count
+toldAs count TooHighValue = Refused Value count
+toldAs count NoRoom = Refused NoSpace spaceRows
+
 -- whether a step was refused for pairs
 abbrev pub isCrowded : Stepped → Bool
 isCrowded (Row i n) = false
@@ -100,6 +109,16 @@ pub record Noted (s memo : List ℕ) (count : ℕ) : Type 0 where
   pub places : spaceRows ≤ length memo
   pub each : (k j : ℕ) → k < spaceRows → getD memo k 0 ≡ suc j → (k < count) × (j < count) × (tree s j ≡ exchanged (tree s k))
 
+-- the notes with the row that was formed for row i
+abbrev pub notedFor : ℕ → Formed → List ℕ → List ℕ
+notedFor i (FormedRow j n) memo = set memo i (j + 1)
+notedFor i Full memo = memo
+
+-- the notes have room for the row that was formed for row i
+pub record Notable (memo : List ℕ) (i : ℕ) (r : Formed) : Type 0 where
+  pub place : i < length memo
+  pub small : (j n : ℕ) → r ≡ FormedRow j n → j + 1 < 65536
+
 -- what forming 1 - T for row i requires
 pub record Exchangeable (s heads links memo : List ℕ) (count i : ℕ) : Type 0 where
   pub holds : Holds s heads links count
@@ -114,3 +133,8 @@ pub record Exchanged (s₀ : List ℕ) (count i : ℕ) (r : Formed) (s heads lin
 -- a test whose label is below a leaf's mark
 pub record Testable (t : Test) : Type 0 where
   pub label : (l : Label) → t ≡ Is l → l .packed < leafMark
+
+-- the row of what is asked with two leaves; the first of them where it is t = t
+unfoldable pub testLeaves : Test → ℕ → ℕ → Diagram
+testLeaves Always v w = leaf v
+testLeaves (Is l) v w = branch (l .packed) (leaf v) (leaf w)

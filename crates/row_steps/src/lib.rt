@@ -15,7 +15,7 @@ ghost use Rattle.diagram.specs.Validity.{tree};
 ghost use Rattle.store.specs.Space.{diagramsOf, Holds, Formation};
 ghost use Rattle.regression.specs.Calls.{combine};
 ghost use Rattle.regression.specs.Step.{testDiagram, rowStep, exchanged};
-ghost use Rattle.row_steps.specs.Running.{Ready, Two, Three, Four, splitStep, Ran, isCrowded, Exchangeable, Exchanged, Testable};
+ghost use Rattle.row_steps.specs.Running.{Ready, Two, Three, Four, splitStep, toldAs, Ran, isCrowded, Notable, notedFor, Exchangeable, Exchanged, Testable, testLeaves};
 
 // What a step in the working space answers: the result's row and the rows then; or why it is refused, and the rows then.
 pub enum Stepped {
@@ -30,6 +30,18 @@ pub fn is_crowded(r: Stepped) -> bool
     match r {
         Stepped::Row(_, _) => false,
         Stepped::Refused(why, _) => why.number() == Refusal::Pairs.number(),
+    }
+}
+
+// What a combination in a space of `count` rows says as a step.
+fn told(r: Joined, count: usize) -> Stepped
+    ensures { λ x. ⌜ x ≡ toldAs count r ⌝ }
+{
+    match r {
+        Joined::At(row, rows, _) => Stepped::Row(row, rows),
+        Joined::TooManyPairs => Stepped::Refused(Refusal::Pairs, count),
+        Joined::TooHighValue => Stepped::Refused(Refusal::Value, count),
+        Joined::NoRoom => Stepped::Refused(Refusal::Space, diagram::SPACE_ROWS),
     }
 }
 
@@ -51,12 +63,7 @@ fn join(
     ensures { λ r. ⌜ Ran limit (combine op (tree (now (space .entry)) i) (tree (now (space .entry)) j)) (now (space .entry)) count r (now (space .exit)) (now (heads .exit)) (now (links .exit)) (now (index .exit)) ⌝ }
 {
     let r = combine::join_rows(plan, index, limit, i, j, op, space, heads, links, count);
-    match r {
-        Joined::At(row, rows, _) => Stepped::Row(row, rows),
-        Joined::TooManyPairs => Stepped::Refused(Refusal::Pairs, count),
-        Joined::TooHighValue => Stepped::Refused(Refusal::Value, count),
-        Joined::NoRoom => Stepped::Refused(Refusal::Space, diagram::SPACE_ROWS),
-    }
+    told(r, count)
 }
 
 // Forms a branch of two leaves.
@@ -102,6 +109,19 @@ fn flipped(v: u64) -> u64
     0
 }
 
+// Notes the row that was formed for row i.
+fn note(memo: &mut [u16], i: usize, r: Formed) -> Formed
+    requires { ⌜ Notable (now memo) i r ⌝ }
+    ensures { λ x. ⌜ x ≡ r ⌝ }
+    ensures { λ _. ⌜ now (memo .exit) ≡ notedFor i r (now (memo .entry)) ⌝ }
+{
+    let Formed::Row(j, _) = r else {
+        return r;
+    };
+    memo[i] = (j + 1) as u16;
+    r
+}
+
 // Forms the rows of 1 - T for row i, and notes the row of each.
 fn exchange(
     space: &mut [u64],
@@ -118,37 +138,29 @@ fn exchange(
     if known != 0 {
         return Formed::Row(known - 1, count);
     }
-    let l = space[i * 3];
-    let t = space[i * 3 + 1];
-    let f = space[i * 3 + 2] as usize;
-    if l == Label::LEAF {
-        let Formed::Row(j, n) = store::leaf(space, heads, links, count, flipped(t)) else {
-            return Formed::Full;
-        };
-        memo[i] = (j + 1) as u16;
-        return Formed::Row(j, n);
+    let row = table::row_at(space, i);
+    if row.label == Label::LEAF {
+        let r = store::leaf(space, heads, links, count, flipped(row.high));
+        return note(memo, i, r);
     }
-    let Formed::Row(high, n) = exchange(space, heads, links, memo, count, t as usize) else {
+    let Formed::Row(high, n) = exchange(space, heads, links, memo, count, row.high as usize) else {
         return Formed::Full;
     };
-    let Formed::Row(low, m) = exchange(space, heads, links, memo, n, f) else {
+    let Formed::Row(low, m) = exchange(space, heads, links, memo, n, row.low as usize) else {
         return Formed::Full;
     };
-    let Formed::Row(j, c) = store::form(
+    let r = store::form(
         space,
         heads,
         links,
         m,
         Row {
-            label: l,
+            label: row.label,
             high: high as u64,
             low: low as u64,
         },
-    ) else {
-        return Formed::Full;
-    };
-    memo[i] = (j + 1) as u16;
-    Formed::Row(j, c)
+    );
+    note(memo, i, r)
 }
 
 // Forms 1 - T for the row `test`.
@@ -264,6 +276,26 @@ pub fn row_step(
     )
 }
 
+// Forms the row of what is asked with two leaves, or the first of them where it is t = t.
+fn form_leaves(
+    space: &mut [u64],
+    heads: &mut [u16],
+    links: &mut [u16],
+    count: usize,
+    test: Test,
+    high: u64,
+    low: u64,
+) -> Formed
+    requires { ⌜ Holds (now space) (now heads) (now links) count ⌝ }
+    requires { ⌜ Testable test ⌝ }
+    ensures { λ r. ⌜ Formation (testLeaves test high low) (onto (testLeaves test high low) (diagramsOf (now (space .entry)) count)) r (now (space .exit)) (now (heads .exit)) (now (links .exit)) ⌝ }
+{
+    match test {
+        Test::Always => store::leaf(space, heads, links, count, high),
+        Test::Is(l) => form_pair(space, heads, links, count, l.packed, high, low),
+    }
+}
+
 // Forms the one-row test of what is asked, or leaf 1 where it is t = t.
 pub fn form_test(
     space: &mut [u64],
@@ -276,10 +308,7 @@ pub fn form_test(
     requires { ⌜ Testable test ⌝ }
     ensures { λ r. ⌜ Formation (testDiagram test) (onto (testDiagram test) (diagramsOf (now (space .entry)) count)) r (now (space .exit)) (now (heads .exit)) (now (links .exit)) ⌝ }
 {
-    match test {
-        Test::Always => store::leaf(space, heads, links, count, 1),
-        Test::Is(l) => form_pair(space, heads, links, count, l.packed, 1, 0),
-    }
+    form_leaves(space, heads, links, count, test, 1, 0)
 }
 
 // Forms 1 - T for the test of what is asked.
@@ -294,10 +323,7 @@ fn form_other(
     requires { ⌜ Testable test ⌝ }
     ensures { λ r. ⌜ Formation (exchanged (testDiagram test)) (onto (exchanged (testDiagram test)) (diagramsOf (now (space .entry)) count)) r (now (space .exit)) (now (heads .exit)) (now (links .exit)) ⌝ }
 {
-    match test {
-        Test::Always => store::leaf(space, heads, links, count, 0),
-        Test::Is(l) => form_pair(space, heads, links, count, l.packed, 0, 1),
-    }
+    form_leaves(space, heads, links, count, test, 0, 1)
 }
 
 // The row step, T being the test of what is asked.

@@ -57,7 +57,7 @@ running-stored s h value e r g = record {
 
 -- ===== What a line that is a call of the run is answered =====
 
--- o is what the call gives of the value diagram, j stands for k behind it
+-- o is what the call gives of the value diagram, j the steps behind it
 module _ {k : Kind} {s : List ℕ} {number : ℕ} {n : Numbers} {w : Memory} (p : ruleOf k Model ≡ Misplaced) (r : Ready k s n w) (says : Value → Answer) (j : ℕ)
     (o : Outcome Diagram) (y : done (sessionOf n w) number k (wordsOf k s) ≡ callSays (sessionOf n w) number says (heldWith j o)) where
   -- accepted: the words hold its m rows, and S^j stands beside them

@@ -115,7 +115,7 @@ module _ (σ : Session) (p : σ .part ≡ Run) (number : ℕ) where
       ap (λ (j : Kind). replyTo σ number j (wordsOf j (b ∷ t))) i
       ∙ ap (λ (o : Outcome (Unit {0})). placed σ number o (done σ number k (wordsOf k (b ∷ t)))) (ap (allowed σ) (ap (ruleOf k) p ∙ q))
 
-  -- a line of the kind k that is a call of the run, with j for k behind it
+  -- a line that is a call of the run: o is what it gives of the value diagram, j the steps behind it
   called : (k : Kind) (says : Held → Answer) (j : ℕ) (o : Outcome Diagram) → ((h : Held) → j ≡ σ .held .steps + acceptedBackup k (says h))
       → Went σ (taken (σ .held) (heldWith j o)) (acceptedBackup k (callSays σ number says (heldWith j o) .answer)) (callSays σ number says (heldWith j o) .session)
   unfolding acceptedBackup

@@ -14,7 +14,7 @@ ghost use Rattle.listing.specs.Used.{Used, setFrom, markedVariables, markedMini
 ghost use Rattle.state.specs.Lent.{factWords, factCount, someBelow, allBelow, namesBelow, constantsBelow, isState};
 ghost use Rattle.state.specs.ValueCall.{mostValuations};
 ghost use Rattle.elimination.specs.Answer.{valueAnswer};
-ghost use Rattle.fact_index.specs.Index.{indexedCount, Indexed, Sought};
+ghost use Rattle.fact_index.specs.Index.{indexedCount, Indexed, Clean, Sought};
 ghost use Rattle.valuing.specs.Asking.{says, Placed, Asked};
 ghost use Rattle.valuing.specs.Tables.{tablesAnswer, Liftable};
 ghost use Rattle.valuing.specs.Walks.{boundNumber, boundAnswer, climbed, isFew, InState, Prepared};
@@ -527,6 +527,25 @@ fn number_of(
     best - 1
 }
 
+// The same, the facts being indexed first, in a clean index that is lent.
+fn number_in(
+    arities: &[u64],
+    words: &[u64],
+    n: u64,
+    constants: &[u64],
+    facts: &[u64],
+    index: &mut [u64],
+    plain: bool,
+) -> u64
+    requires { ⌜ InState (now arities) (now words) n (now constants) (now facts) plain ⌝ }
+    requires { ⌜ Clean (now index) ⌝ }
+    ensures { λ r. ⌜ r ≡ boundNumber (now (arities .entry)) (now (words .entry)) n (now (constants .entry)) (now (facts .entry)) [] ⌝ }
+{
+    fact_index::index_facts(arities, facts, index);
+    let mut high = [0u64; diagram::ROWS];
+    number_of(arities, words, n, constants, facts, index, &mut high, plain)
+}
+
 // The same, with an index of few facts made for it.
 fn number_few(
     arities: &[u64],
@@ -540,18 +559,7 @@ fn number_few(
     ensures { λ r. ⌜ r ≡ boundNumber (now (arities .entry)) (now (words .entry)) n (now (constants .entry)) (now (facts .entry)) [] ⌝ }
 {
     let mut index = [0u64; fact_index::BUCKETS + FEW_FACTS];
-    fact_index::index_facts(arities, facts, &mut index);
-    let mut high = [0u64; diagram::ROWS];
-    number_of(
-        arities,
-        words,
-        n,
-        constants,
-        facts,
-        &index,
-        &mut high,
-        plain,
-    )
+    number_in(arities, words, n, constants, facts, &mut index, plain)
 }
 
 // The same, with an index of many.
@@ -567,18 +575,7 @@ fn number_many(
     ensures { λ r. ⌜ r ≡ boundNumber (now (arities .entry)) (now (words .entry)) n (now (constants .entry)) (now (facts .entry)) [] ⌝ }
 {
     let mut index = [0u64; fact_index::BUCKETS + MANY_FACTS];
-    fact_index::index_facts(arities, facts, &mut index);
-    let mut high = [0u64; diagram::ROWS];
-    number_of(
-        arities,
-        words,
-        n,
-        constants,
-        facts,
-        &index,
-        &mut high,
-        plain,
-    )
+    number_in(arities, words, n, constants, facts, &mut index, plain)
 }
 
 // Whether a parameter is marked.

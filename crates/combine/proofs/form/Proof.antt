@@ -2,7 +2,7 @@ use mathlib.Core.Path.{_∙_}
 use native.Mathlib.Omega.{arith}
 use borrow.Author.Needs.{needs}
 use Prim.Native.Nat.{_-_}
-use Rattle.combine.proofs.FormLaws.{FormLoop, loop-start, loop-formable, loop-space, loop-room, loop-full, loop-step, loop-end}
+use Rattle.combine.proofs.FormLaws.{FormLoop, loop-start, loop-formable, loop-space, loop-place, loop-full, loop-step, loop-end}
 use Rattle.combine.proofs.form.Statement.{statement}
 use Rattle.combine.proofs.form.Tie as tie
 
@@ -52,66 +52,6 @@ returns c =
     let start = looped .before .before .before .before .before in
     loop-full (start .pre .0) (looped .loop .inv) (asked .loop-test .taken) (formed .form-at .ensures) (c .enum-told .given .1)
 
-mul-plan : tie.Need-mul-plan Inv-loop μ-loop
-mul-plan c =
-    let asked = c .before .before .before .before .before .before .before .before .before .before .before .before .before .before in
-    let looped = asked .before in
-    let start = looped .before .before .before .before .before in
-    let r = loop-room (start .pre .0) (looped .loop .inv) in
-    let t = asked .loop-test .taken in
-    let q = looped .loop .inv .plan-length in
-    omega arith
-
-add-plan : tie.Need-add-plan Inv-loop μ-loop
-add-plan c =
-    let asked = c .before .before .before .before .before .before .before .before .before .before .before .before .before .before in
-    let looped = asked .before in
-    let start = looped .before .before .before .before .before in
-    let r = loop-room (start .pre .0) (looped .loop .inv) in
-    let t = asked .loop-test .taken in
-    let q = looped .loop .inv .plan-length in
-    omega arith
-
-mul-plan-2 : tie.Need-mul-plan-2 Inv-loop μ-loop
-mul-plan-2 c =
-    let asked = c .before .before .before .before .before .before .before .before .before .before .before .before .before .before in
-    let looped = asked .before in
-    let start = looped .before .before .before .before .before in
-    let r = loop-room (start .pre .0) (looped .loop .inv) in
-    let t = asked .loop-test .taken in
-    let q = looped .loop .inv .plan-length in
-    omega arith
-
-slice-write-plan : tie.Need-slice-write-plan Inv-loop μ-loop
-slice-write-plan c =
-    let asked = c .before .before .before .before .before .before .before .before .before .before .before .before .before .before in
-    let looped = asked .before in
-    let start = looped .before .before .before .before .before in
-    let r = loop-room (start .pre .0) (looped .loop .inv) in
-    let t = asked .loop-test .taken in
-    let q = looped .loop .inv .plan-length in
-    omega arith
-
-add-k : tie.Need-add-k Inv-loop μ-loop
-add-k c =
-    let asked = c .before .before .before .before .before .before .before .before .before .before .before .before .before .before in
-    let looped = asked .before in
-    let start = looped .before .before .before .before .before in
-    let r = loop-room (start .pre .0) (looped .loop .inv) in
-    let t = asked .loop-test .taken in
-    let q = looped .loop .inv .plan-length in
-    omega arith
-
-loop-less : tie.Need-loop-less Inv-loop μ-loop
-loop-less c =
-    let asked = c .before .before .before .before .before .before .before .before .before .before .before .before .before .before in
-    let looped = asked .before in
-    let start = looped .before .before .before .before .before in
-    let r = loop-room (start .pre .0) (looped .loop .inv) in
-    let t = asked .loop-test .taken in
-    let q = looped .loop .inv .plan-length in
-    omega arith
-
 loop-again : tie.Need-loop-again Inv-loop μ-loop
 loop-again c =
     let formed = c .before .before .before .before .before .before .before .before .before in
@@ -140,5 +80,18 @@ pub form-spec : {M : Type 1} → statement M
 form-spec =
     tie.close
     (tie.spec Inv-loop μ-loop loop-holds form-at-requires (λ c. search needs) (λ c. search needs) same-length same-length-2 same-length-3
-    same-length-4 returns mul-plan add-plan mul-plan-2 slice-write-plan add-k loop-less loop-again same-length-5 same-length-6 same-length-7
-    same-length-8 returns-2)
+    same-length-4 returns
+    -- mul-plan, add-plan, mul-plan-2, slice-write-plan, add-k, loop-less
+    (λ c. let asked = c .before .before .before .before .before .before .before .before .before .before .before .before .before .before in
+    let p = loop-place (asked .before .before .before .before .before .before .pre .0) (asked .before .loop .inv) (asked .loop-test .taken) in omega arith)
+    (λ c. let asked = c .before .before .before .before .before .before .before .before .before .before .before .before .before .before in
+    let p = loop-place (asked .before .before .before .before .before .before .pre .0) (asked .before .loop .inv) (asked .loop-test .taken) in omega arith)
+    (λ c. let asked = c .before .before .before .before .before .before .before .before .before .before .before .before .before .before in
+    let p = loop-place (asked .before .before .before .before .before .before .pre .0) (asked .before .loop .inv) (asked .loop-test .taken) in omega arith)
+    (λ c. let asked = c .before .before .before .before .before .before .before .before .before .before .before .before .before .before in
+    let p = loop-place (asked .before .before .before .before .before .before .pre .0) (asked .before .loop .inv) (asked .loop-test .taken) in omega arith)
+    (λ c. let asked = c .before .before .before .before .before .before .before .before .before .before .before .before .before .before in
+    let p = loop-place (asked .before .before .before .before .before .before .pre .0) (asked .before .loop .inv) (asked .loop-test .taken) in omega arith)
+    (λ c. let asked = c .before .before .before .before .before .before .before .before .before .before .before .before .before .before in
+    let p = loop-place (asked .before .before .before .before .before .before .pre .0) (asked .before .loop .inv) (asked .loop-test .taken) in omega arith)
+    loop-again same-length-5 same-length-6 same-length-7 same-length-8 returns-2)

@@ -4,8 +4,8 @@ use Prim.Native.Nat.{_-_}
 use lib.ListN.{length}
 use borrow.Author.Needs.{needs}
 use Rattle.label.specs.Renamings.{mapOf}
+use Rattle.paths.specs.Routes.{literalsIn}
 use Rattle.contradiction.specs.Contradiction.{clashes}
-use Rattle.contradict.specs.Representing.{literalsIn}
 use Rattle.contradict.proofs.LiteralLaws.{From, from-start, from-hit, from-next, from-end, literal-movable, clash-is}
 use Rattle.contradict.proofs.clash.Statement.{statement}
 use Rattle.contradict.proofs.clash.Tie as tie

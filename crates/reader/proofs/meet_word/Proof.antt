@@ -1,39 +1,19 @@
 -- `reader::meet_word` meets its contract. Assumes nothing.
-use Rattle.reader.proofs.TermCode.{word-name, word-variable, word-parameter, word-minimum, word-number, word-equal, word-holds, word-step, word-end}
+use Rattle.reader.proofs.TermCode.{word-variable, word-minimum, word-other}
 use borrow.Author.Needs.{needs}
 use Rattle.reader.proofs.meet_word.Statement.{statement}
 use Rattle.reader.proofs.meet_word.Tie as tie
 
 returns : tie.Need-returns
-returns c = search word-name
+returns c = search word-variable
 
 returns-2 : tie.Need-returns-2
-returns-2 c = search word-variable
+returns-2 c = search word-minimum
 
 returns-3 : tie.Need-returns-3
-returns-3 c = search word-parameter
-
-returns-4 : tie.Need-returns-4
-returns-4 c = search word-minimum
-
-returns-5 : tie.Need-returns-5
-returns-5 c = search word-number
-
-returns-6 : tie.Need-returns-6
-returns-6 c = search word-equal
-
-returns-7 : tie.Need-returns-7
-returns-7 c = search word-holds
-
-returns-8 : tie.Need-returns-8
-returns-8 c = search word-step
-
-returns-9 : tie.Need-returns-9
-returns-9 c = search word-end
+returns-3 c = let start = c .before .before in word-other (start .args .binding) _ _ (start .pre) (start .args .event) (c .match .keys3)
 
 pub meet-word-spec : {M : Type 1} → statement M
 meet-word-spec =
     tie.close
-    (tie.spec (λ c. search needs) (λ c. search needs) (λ c κs. search needs) (λ c. search needs) (λ c. search needs) (λ c κs. search needs)
-    (λ c. search needs) (λ c. search needs) (λ c. search needs) (λ c. search needs) (λ c. search needs) returns (λ c. search needs) returns-2
-    returns-3 (λ c. search needs) returns-4 returns-5 returns-6 returns-7 returns-8 returns-9)
+    (tie.spec (λ c. search needs) (λ c κs. search needs) (λ c. search needs) (λ c κs. search needs) (λ c. search needs) returns (λ c. search needs) returns-2 returns-3)

@@ -1,25 +1,10 @@
-use Rattle.row_steps.proofs.StepRunLaws.{test-always, test-is, testable-label}
+use Rattle.row_steps.proofs.StepRunLaws.{test-formed}
 use borrow.Author.Needs.{needs}
 use Rattle.row_steps.proofs.form_test.Statement.{statement}
 use Rattle.row_steps.proofs.form_test.Tie as tie
 
-form-pair-requires : tie.Need-form-pair-requires
-form-pair-requires c κs =
-    let at-test = c .before .before .before .before in
-    let entry = at-test .before .before .before .before .before in
-    (entry .pre .0, testable-label (entry .pre .1) (at-test .test .given .1))
-
-returns : tie.Need-returns
-returns c = test-always _ _ (c .before .before .before .before .before .before .before .before .before .before .enum-told .given .1) (c .before .before .before .before .before .before .leaf .ensures)
-
-returns-2 : tie.Need-returns-2
-returns-2 c =
-    let at-form-pair = c .before .before .before .before .before .before in
-    let at-test = at-form-pair .before .before .before .before .before in
-    test-is _ _ (at-test .test .given .1) (at-form-pair .form-pair .ensures)
-
 pub form-test-spec : {M : Type 1} → statement M
 form-test-spec =
     tie.close
-    (tie.spec (λ c. search needs) (λ c κs. search needs) (λ c. search needs) form-pair-requires (λ c. search needs) (λ c. search needs) (λ c. search needs) returns
-    (λ c. search needs) (λ c. search needs) (λ c. search needs) returns-2)
+    (tie.spec (λ c κs. search needs) (λ c. search needs) (λ c. search needs) (λ c. search needs)
+    (λ c. test-formed _ _ _ (c .before .before .before .before .before .before .form-leaves .ensures)))

@@ -1,5 +1,5 @@
 use Rattle.row_steps.specs.RunLaws.{ready-pairable}
-use Rattle.row_steps.proofs.JoinLaws.{join-row, join-many, join-high, join-none}
+use Rattle.row_steps.proofs.JoinLaws.{joined}
 use borrow.Author.Needs.{needs}
 use Rattle.row_steps.proofs.join.Statement.{statement}
 use Rattle.row_steps.proofs.join.Tie as tie
@@ -11,32 +11,17 @@ join-rows-requires c κs =
 
 returns : tie.Need-returns
 returns c =
-    let at-join-rows = c .before .before .before .before .before .before .before .before .before .before .before .before .before in
+    let at-join-rows = c .before .before .before .before .before .before .before .before .before .before .before in
     let entry = at-join-rows .before .before .before .before .before .before .before .before .before .before .before in
-    join-row (entry .pre .0 .most) (entry .pre .0 .space .values) (at-join-rows .join-rows .ensures) (c .before .r .given .1)
-
-returns-2 : tie.Need-returns-2
-returns-2 c =
-    let at-join-rows = c .before .before .before .before .before .before .before .before .before .before .before .before in
-    let entry = at-join-rows .before .before .before .before .before .before .before .before .before .before .before in
-    join-many (entry .pre .0 .most) (entry .pre .0 .space .values) (at-join-rows .join-rows .ensures) (c .enum-told .given .1)
-
-returns-3 : tie.Need-returns-3
-returns-3 c =
-    let at-join-rows = c .before .before .before .before .before .before .before .before .before .before .before .before in
-    let entry = at-join-rows .before .before .before .before .before .before .before .before .before .before .before in
-    join-high (entry .pre .0 .most) (entry .pre .0 .space .values) (at-join-rows .join-rows .ensures) (c .enum-told2 .given .1)
-
-returns-4 : tie.Need-returns-4
-returns-4 c =
-    let at-join-rows = c .before .before .before .before .before .before .before .before .before .before .before .before in
-    let entry = at-join-rows .before .before .before .before .before .before .before .before .before .before .before in
-    join-none (entry .pre .0 .most) (entry .pre .0 .space .values) (at-join-rows .join-rows .ensures) (c .enum-told3 .given .1)
+    joined (entry .pre .0 .most) (entry .pre .0 .space .values) (at-join-rows .join-rows .ensures) (c .told .ensures)
 
 pub join-spec : {M : Type 1} → statement M
 join-spec =
     tie.close
-    (tie.spec join-rows-requires (λ c. search needs) (λ c. search needs) (λ c. search needs) (λ c. search needs) (λ c. search needs) (λ c. search needs) (λ c. search needs)
-    (λ c. search needs) (λ c. search needs) returns (λ c. search needs) (λ c. search needs) (λ c. search needs) (λ c. search needs) (λ c. search needs) returns-2
-    (λ c. search needs) (λ c. search needs) (λ c. search needs) (λ c. search needs) (λ c. search needs) returns-3 (λ c. search needs) (λ c. search needs) (λ c. search needs)
-    (λ c. search needs) (λ c. search needs) returns-4)
+    (tie.spec join-rows-requires (λ c κs. search needs)
+    (λ c. c .before .before .before .before .before .before .before .before .before .before .before .join-rows .kept .0)
+    (λ c. c .before .before .before .before .before .before .before .before .before .before .before .join-rows .kept .1 .0)
+    (λ c. c .before .before .before .before .before .before .before .before .before .before .before .join-rows .kept .1 .1 .1 .1 .1 .1 .0)
+    (λ c. c .before .before .before .before .before .before .before .before .before .before .before .join-rows .kept .1 .1 .1 .1 .1 .1 .1 .0)
+    (λ c. c .before .before .before .before .before .before .before .before .before .before .before .join-rows .kept .1 .1 .1 .1 .1 .1 .1 .1 .0)
+    returns)

@@ -1,19 +1,13 @@
 use native.Mathlib.Omega.{arith}
-use Prim.Native.Nat.{ℕ, _+_}
-use lib.ListN.{length-replicate}
+use Prim.Native.Nat.{_+_}
 use borrow.Author.Needs.{needs}
-use Rattle.diagram.specs.Sizes.{mostRows}
 use Rattle.fact_index.specs.Index.{buckets}
 use Rattle.fact_index.specs.IndexLaws.{clean-zeros}
 use Rattle.valuing.proofs.number_many.Statement.{statement}
 use Rattle.valuing.proofs.number_many.Tie as tie
 
-index-facts-requires : tie.Need-index-facts-requires
-index-facts-requires c κs = clean-zeros (buckets + 4096) (omega arith)
-
-number-of-requires : tie.Need-number-of-requires
-number-of-requires c κs = (search needs, (search needs, omega (arith, length-replicate {A = ℕ} mostRows 0)))
+number-in-requires : tie.Need-number-in-requires
+number-in-requires c κs = (search needs, clean-zeros (buckets + 4096) (omega arith))
 
 pub number-many-spec : {M : Type 1} → statement M
-number-many-spec =
-    tie.close (tie.spec (λ c. search needs) index-facts-requires (λ c. search needs) (λ c. search needs) number-of-requires (λ c. search needs))
+number-many-spec = tie.close (tie.spec (λ c. search needs) number-in-requires (λ c. search needs))
