@@ -14,13 +14,14 @@ use Rattle.diagram.specs.Diagram.{Diagram, leaf, branch, same, Ordered, Reduced
 use Rattle.diagram.specs.Canonicity.{from-ordered}
 use Rattle.diagram.specs.Listing.{Fine}
 use Rattle.diagram.specs.Rows.{rows}
-use Rattle.diagram.specs.RowLists.{size}
+use Rattle.diagram.specs.Inner.{size}
 use Rattle.diagram.specs.Variables.{closed}
 use Rattle.apply.specs.declared.Operation.the-variants.{Sum, Product}
 use Rattle.apply.specs.Apply.{node}
 use Rattle.regression.specs.Calls.{form, combine}
 use Rattle.regression.specs.Step.{labelTest, testDiagram, exchanged, rowStep}
-use Rattle.reading.specs.Tree.{depth, opsOf}
+use Rattle.reading.specs.Inner.{depth}
+use Rattle.reading.specs.Tree.{opsOf}
 use Rattle.build.specs.Build.{readDiagram, held, rewardDiagram}
 use Rattle.build.specs.Machine.{mostTests, builtClosed}
 use Rattle.build.specs.MachineLaws.{built-reward}

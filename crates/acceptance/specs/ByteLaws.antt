@@ -11,7 +11,7 @@ use Rattle.label.specs.Limits.{equality}
 use Rattle.label.specs.Labels.{predicateOf, placeAt, unpacked, termsOf}
 use Rattle.diagram.specs.Sizes.{spaceRows, mostPairs}
 use Rattle.diagram.specs.Diagram.{Diagram, leaf, branch, EveryLabel}
-use Rattle.diagram.specs.RowLists.{size}
+use Rattle.diagram.specs.Inner.{size}
 use Rattle.words.specs.Words.{IsName}
 use Rattle.words.specs.ByteLaws.{letter-range}
 use Rattle.answers.specs.Digits.{digits}

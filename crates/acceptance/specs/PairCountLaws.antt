@@ -6,7 +6,7 @@ use lib.ListN.{length, length-append}
 use Rattle.basics.specs.Tests.{Flag, isTrue, isFalse, flag}
 use Rattle.basics.specs.Members.{nub, mem-nub, nodup-nub, nodup-le}
 use Rattle.diagram.specs.Diagram.{Diagram, leaf, branch, same}
-use Rattle.diagram.specs.RowLists.{size}
+use Rattle.diagram.specs.Inner.{size}
 use Rattle.diagram.specs.DiagramLaws.{same-eq}
 use Rattle.apply.specs.declared.Operation.{Operation}
 use Rattle.apply.specs.declared.Operation.the-variants.{Sum}

@@ -13,7 +13,7 @@ use Rattle.diagram.specs.Diagram.{Diagram, leaf, branch, same}
 use Rattle.diagram.specs.DiagramLaws.{diagram-test}
 use Rattle.diagram.specs.Listing.{Fine}
 use Rattle.diagram.specs.Rows.{onto, rows}
-use Rattle.diagram.specs.RowLists.{isPart}
+use Rattle.diagram.specs.Inner.{isPart}
 use Rattle.diagram.specs.RowLaws.{PartOf, it-is, of-high, of-low, part-leaf, part-branch, mem-rows, onto-parts}
 use Rattle.apply.specs.declared.Operation.{Operation}
 use Rattle.apply.specs.Apply.{node, apply}

@@ -19,7 +19,7 @@ use Rattle.answers.specs.declared.Put.{Put}
 use Rattle.answers.specs.declared.Put.the-variants.{At, Full}
 use Rattle.answers.specs.Answers.{field, fields, nameField, edgeField, leafField, lineEnd, answerLine, rowLine, rowLineAt, countLineAt}
 use Rattle.answers.specs.Answers.{valueHead, backupHead, cutHead, reduceHead, bestHead, countHead, didHead, refusedHead, rowHead}
-use Rattle.answers.specs.Writing.{lineBytes, putAnswer, putResult, Placed}
+use Rattle.answers.specs.Inner.{lineBytes, putAnswer, putResult, Placed}
 use Rattle.answering.specs.Wrote.{Wrote, WroteWithin}
 use Rattle.answering.proofs.WriteLaws.{wrote-nothing, one-field, three-fields, four-fields, of-word, wider, wrote-more}
 use Rattle.answering.proofs.KeyLaws.{name-short}

@@ -13,7 +13,8 @@ use Rattle.answers.specs.declared.Answer.the-variants.{Show}
 use Rattle.answers.specs.declared.Put.{Put}
 use Rattle.answers.specs.declared.Put.the-variants.{At, Full}
 use Rattle.answers.specs.Answers.{rowLineAt, rowLines, countLineAt, countLines, answerBytes}
-use Rattle.answers.specs.Writing.{IsWord, lineBytes, mostBytes, putAnswer, putResult, Placed}
+use Rattle.answers.specs.Inner.{lineBytes, putAnswer, putResult, Placed}
+use Rattle.answers.specs.Writing.{IsWord, mostBytes}
 use Rattle.answers.specs.AnswerLaws.{answer-short, counts-short}
 use Rattle.answering.specs.declared.Table.{Table}
 use Rattle.answering.specs.declared.Table.the-variants.{Rows, Counts}

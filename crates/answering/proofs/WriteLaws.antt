@@ -11,7 +11,7 @@ use Rattle.answers.specs.DigitLaws.{digits-one, digits-more, digits-some, digit
 use Rattle.cutting.specs.declared.Edge.{Edge}
 use Rattle.cutting.specs.declared.Edge.the-variants.{True, False}
 use Rattle.answers.specs.Answers.{field, edgeField, lineEnd}
-use Rattle.answers.specs.Writing.{lineBytes}
+use Rattle.answers.specs.Inner.{lineBytes}
 use Rattle.answering.specs.Wrote.{Wrote, WroteWithin}
 
 module _ (s : List ℕ) (place : ℕ) where

@@ -50,7 +50,8 @@ use Rattle.answers.specs.declared.Answer.the-variants.{Value, Backup, Cu
 use Rattle.answers.specs.DigitLaws.{digits-short, digits-byte}
 use Rattle.answers.specs.Answers.{field, fields, nameField, edgeField, leafField, lineEnd, answerLine, rowLine, rowLineAt, rowLines, countLineAt, countLines, answerBytes}
 use Rattle.answers.specs.Answers.{valueHead, backupHead, cutHead, reduceHead, bestHead, countHead, didHead, refusedHead, rowHead}
-use Rattle.answers.specs.Writing.{Plain, IsWord, IsByte, OfWords, lineBytes, mostBytes}
+use Rattle.answers.specs.Inner.{lineBytes}
+use Rattle.answers.specs.Writing.{Plain, IsWord, IsByte, OfWords, mostBytes}
 
 field-short : (v : ℕ) → IsWord v → length (field v) ≤ 21
 unfolding field

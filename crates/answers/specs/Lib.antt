@@ -25,6 +25,7 @@
 pub mod Digits
 pub mod Answers
 pub mod Writing
+pub mod Inner
 -- laws
 pub mod DigitLaws
 pub mod AnswerLaws

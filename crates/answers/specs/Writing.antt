@@ -1,35 +1,12 @@
 -- Bytes written into a lent buffer at a place: an answer that has no room is not written (document 01, section 'A run, whole').
-use Prim.Native.Nat.{ℕ, _+_, _≤_, _<_}
-use mathlib.Core.Path.{_≡_}
-use mathlib.Core.Bool.{cond}
-use mathlib.Core.List.{List, _++_}
-use lib.Dec.{leb}
-use lib.ListN.{length, take, drop}
+use Prim.Native.Nat.{ℕ, _≤_, _<_}
 use Rattle.diagram.specs.Sizes.{mostRows}
-use Rattle.answers.specs.declared.Put.{Put}
-use Rattle.answers.specs.declared.Put.the-variants.{At, Full}
 use Rattle.answers.specs.declared.Answer.{Answer}
 use Rattle.answers.specs.declared.Answer.the-variants.{Value, Backup, Cut, Reduce, Refused, Show, Text, Best, Count, Did, Nothing}
-
--- the bytes of a line at most: a word, four numbers and the signs between them
-abbrev pub lineBytes : ℕ
-lineBytes = 90
 
 -- the bytes of any answer at most: a line for each of 1,024 rows
 abbrev pub mostBytes : ℕ
 mostBytes = 92160
-
--- the bytes w put at a place of a buffer of so many bytes: the place behind them, or that there is no room
-unfoldable pub putAnswer : ℕ → ℕ → List ℕ → Put
-putAnswer room place w = cond (leb (place + length w) room) (At (place + length w)) Full
-
--- the buffer then: all other bytes stay, and all stay where there is no room
-unfoldable pub putResult : List ℕ → ℕ → List ℕ → List ℕ
-putResult s place w = cond (leb (place + length w) (length s)) (take place s ++ w ++ drop (place + length w) s) s
-
-pub record Placed (s : List ℕ) (place : ℕ) (w : List ℕ) (r : Put) (s′ : List ℕ) : Type 0 where
-  pub answer : r ≡ putAnswer (length s) place w
-  pub result : s′ ≡ putResult s place w
 
 -- no form and no spread is to be printed
 abbrev pub Plain : Answer → Type 0

@@ -22,7 +22,7 @@ use Rattle.diagram.specs.Rows.{onto}
 use Rattle.diagram.specs.Listing.{listing, diagramOf, Fine, Good}
 use Rattle.diagram.specs.Validity.{tree}
 use Rattle.diagram.specs.Variables.{variables, minimums, closedFrom, closed, after}
-use Rattle.diagram.specs.RowLists.{isPart}
+use Rattle.diagram.specs.Inner.{isPart}
 use Rattle.diagram.specs.RowLaws.{onto-mem, onto-from, onto-most, onto-kept, kept-none, row-mem, onto-keeps}
 use Rattle.diagram.specs.ListingOfDiagram.{part-fine}
 use Rattle.diagram.specs.DiagramOfListing.{good-diagram}

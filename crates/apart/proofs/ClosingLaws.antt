@@ -6,7 +6,8 @@ use native.Mathlib.Omega.{arith}
 use lib.ListN.{length, take, drop}
 use lib.Seq.{length-take-le}
 use Rattle.label.specs.Limits.{firstVariable, firstMinimum, termEnd}
-use Rattle.label.specs.Renamings.{mapOf, renamed, numbering, Increasing, EachIn}
+use Rattle.label.specs.Inner.{mapOf, Increasing}
+use Rattle.label.specs.Renamings.{renamed, numbering, EachIn}
 use Rattle.label.specs.RenamingLaws.{Numbered}
 use Rattle.diagram.specs.Diagram.{Diagram}
 use Rattle.diagram.specs.Rows.{onto, rows}
@@ -15,7 +16,7 @@ use Rattle.diagram.specs.Variables.{variables, minimums, closedFrom, closed}
 use Rattle.diagram.specs.ListingValid.{valid-is-listing}
 use Rattle.diagram.specs.DiagramOfListing.{good-diagram}
 use Rattle.listing.specs.Used.{Used}
-use Rattle.rename.specs.Relabelling.{Named, KindsFit}
+use Rattle.rename.specs.Inner.{Named, KindsFit}
 use Rattle.rename.specs.RelabelLaws.{labels-weaken, relabel-agree, relabel-rows}
 use Rattle.rename.specs.TermLaws.{each-weaken, renamed-agree}
 use Rattle.rename.specs.VariableLaws.{terms-numbered, named-labels, renaming-keeps}

@@ -17,7 +17,8 @@ use Rattle.diagram.specs.Words.{labelAt, highAt, lowAt}
 use Rattle.diagram.specs.Listing.{index, Fine}
 use Rattle.diagram.specs.ListingLaws.{index-less, getD-index}
 use Rattle.diagram.specs.Validity.{tree}
-use Rattle.diagram.specs.RowLists.{rowTree, Encoded}
+use Rattle.diagram.specs.Inner.{Encoded}
+use Rattle.diagram.specs.RowLists.{rowTree}
 use Rattle.diagram.specs.RowLaws.{onto-mem}
 use Rattle.diagram.specs.Shown.{Shown}
 use Rattle.apply.specs.declared.Operation.{Operation}

@@ -12,7 +12,7 @@ use Rattle.diagram.specs.Listing.{diagramOf}
 use Rattle.diagram.specs.Validity.{Valid}
 use Rattle.diagram.specs.Variables.{variables, minimums}
 use Rattle.listing.specs.Used.{Used, markedVariables, markedMinimums}
-use Rattle.rename.specs.Relabelling.{KindsFit}
+use Rattle.rename.specs.Inner.{KindsFit}
 use Rattle.store.specs.Space.{Holds}
 use Rattle.combine.specs.Calls.{Callable}
 use Rattle.apart.specs.declared.Aside.{Aside}

@@ -12,7 +12,7 @@ use Rattle.diagram.specs.Diagram.{Diagram, Ordered, Reduced}
 use Rattle.diagram.specs.Rows.{onto, rows}
 use Rattle.diagram.specs.Listing.{listing, Fine}
 use Rattle.diagram.specs.Validity.{Valid, tree}
-use Rattle.diagram.specs.RowLists.{Written}
+use Rattle.diagram.specs.Inner.{Written}
 use Rattle.diagram.specs.Variables.{closed}
 use Rattle.apply.specs.declared.Operation.{Operation}
 use Rattle.apply.specs.declared.Combined.{Combined}

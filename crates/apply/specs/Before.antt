@@ -1,19 +1,19 @@
 -- What a combination answered before request L4 (document 01, section 'Combination'): a pair ended only where both are leaves, as those of a sum do. `ZeroLaws` compares.
-use mathlib.Core.Bool.{Bool, false, cond, _||_}
+use mathlib.Core.Bool.{cond}
 use mathlib.Core.List.{List}
 use Prim.Native.Nat.{ℕ}
 use lib.ListN.{length}
 use lib.Dec.{ltb}
 use Rattle.refusal.specs.declared.Refusal.the-variants.{Variables, Pairs, Value, Space}
 use Rattle.diagram.specs.Sizes.{mostRows, spaceRows, mostPairs}
-use Rattle.diagram.specs.Diagram.{Diagram, leaf, branch}
+use Rattle.diagram.specs.Diagram.{Diagram}
 use Rattle.diagram.specs.Rows.{rows}
 use Rattle.apply.specs.declared.Operation.{Operation}
 use Rattle.apply.specs.declared.Operation.the-variants.{Sum}
 use Rattle.apply.specs.declared.Names.{Names}
 use Rattle.apply.specs.declared.Combined.{Combined}
 use Rattle.apply.specs.declared.Combined.the-variants.{Done, Refused}
-use Rattle.apply.specs.Pairs.{Pair, absorbs, pairs, pairCount, overflows}
+use Rattle.apply.specs.Pairs.{Pair, pairs, pairCount, overflows}
 use Rattle.apply.specs.Formed.{formed}
 use Rattle.apply.specs.Combination.{operate, leftOperand, rightOperand, combination, tooMany, operandRows}
 
@@ -23,15 +23,6 @@ allPairs a b = pairs Sum a b
 
 abbrev pub allCount : Diagram → Diagram → ℕ
 allCount a b = pairCount Sum a b
-
--- a pair left out now has a leaf that absorbs on either side
-unfoldable pub absorbing : Operation → Diagram → Bool
-absorbing op (leaf v) = absorbs op v
-absorbing op (branch l t f) = false
-
-unfoldable pub zeroPair : Operation → Pair → Bool
-unfolding absorbing
-zeroPair op p = absorbing op (p .0) || absorbing op (p .1)
 
 -- the checks in order: variables (8), pairs (10), value (11), space (9)
 unfoldable pub answerBefore : Operation → Names → List ℕ → Diagram → Diagram → Combined

@@ -24,7 +24,7 @@ use Rattle.apply.specs.declared.Combined.{Combined}
 use Rattle.apply.specs.declared.Combined.the-variants.{Done, Refused}
 use Rattle.apply.specs.Apply.{apply}
 use Rattle.apply.specs.Pairs.{pairs, pairCount, overflows}
-use Rattle.apply.specs.Formed.{ClosedRows}
+use Rattle.apply.specs.Inner.{ClosedRows}
 use Rattle.apply.specs.ApplyLaws.{eval-apply}
 use Rattle.apply.specs.RowLaws.{rows-onto, nothing-rows, onto-closed, onto-nodup}
 use Rattle.apply.specs.FormedLaws.{formed-count}

@@ -16,7 +16,8 @@ use Rattle.apply.specs.declared.Operation.{Operation}
 use Rattle.apply.specs.Apply.{node, apply}
 use Rattle.apply.specs.Pairs.{Pair, samePair, ends, pairs}
 use Rattle.apply.specs.Visit.{visit}
-use Rattle.apply.specs.Formed.{add, formed, ClosedRows}
+use Rattle.apply.specs.Inner.{ClosedRows}
+use Rattle.apply.specs.Formed.{add, formed}
 use Rattle.apply.specs.Combination.{operate}
 use Rattle.apply.specs.Walk.{Step}
 use Rattle.apply.specs.ApplyLaws.{node-same, node-differ, apply-step}

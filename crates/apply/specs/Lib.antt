@@ -52,6 +52,7 @@ pub mod Visit
 pub mod Formed
 pub mod Combination
 pub mod Before
+pub mod Inner
 -- laws
 pub mod Walk
 pub mod ApplyLaws

@@ -10,7 +10,7 @@ use Rattle.diagram.specs.Diagram.{Diagram, leaf, branch, same}
 use Rattle.diagram.specs.Rows.{onto, rows}
 use Rattle.diagram.specs.DiagramLaws.{same-eq, diagram-test, onto-old, onto-leaf, onto-branch}
 use Rattle.diagram.specs.RowLaws.{onto-mem, onto-keeps-mem, onto-fresh}
-use Rattle.apply.specs.Formed.{ClosedRows}
+use Rattle.apply.specs.Inner.{ClosedRows}
 
 pub rows-onto : (d : Diagram) → rows d ≡ onto d []
 unfolding rows

@@ -9,7 +9,7 @@ use Rattle.basics.specs.Tests.{Cmp, below, equal, above, cmp, Flag, isTrue, isF
 use Rattle.basics.specs.Members.{mem, NoDup, Within, clash, mem-snoc, append-one, snoc-cases, nodup-snoc}
 use Rattle.basics.specs.Prefix.{Prefix, prefix-refl, prefix-trans, prefix-snoc, mem-prefix}
 use Rattle.diagram.specs.Diagram.{Diagram, leaf, branch}
-use Rattle.diagram.specs.RowLists.{size}
+use Rattle.diagram.specs.Inner.{size}
 use Rattle.apply.specs.declared.Operation.{Operation}
 use Rattle.apply.specs.Pairs.{Pair, samePair, ends, successor, ClosedPairs, LeastPairs, pairs, pairCount}
 use Rattle.apply.specs.Visit.{visit}

@@ -4,7 +4,7 @@ use Prim.Native.Nat.{ℕ, suc, _+_, _<_}
 use native.Mathlib.Omega.{arith}
 use Rattle.basics.specs.Tests.{below, equal, above, cmp}
 use Rattle.diagram.specs.Diagram.{Diagram, leaf, branch, From}
-use Rattle.diagram.specs.RowLists.{size}
+use Rattle.diagram.specs.Inner.{size}
 
 -- l is lower than the label at d's root, if there is one
 abbrev pub Below : ℕ → Diagram → Type 0

@@ -25,7 +25,8 @@ use Rattle.apply.specs.Pairs.{Pair, samePair, absorbs, ends, descend, su
 use Rattle.apply.specs.Visit.{visit}
 use Rattle.apply.specs.Formed.{formed}
 use Rattle.apply.specs.Combination.{operate, leftOperand, rightOperand, tooMany, operandRows, rowsFormed, combination, diagramAnswer}
-use Rattle.apply.specs.Before.{allPairs, allCount, absorbing, zeroPair, answerBefore, recounted}
+use Rattle.apply.specs.Inner.{absorbing, zeroPair}
+use Rattle.apply.specs.Before.{allPairs, allCount, answerBefore, recounted}
 use Rattle.apply.specs.Course.{absorbed-left, absorbed-right, absorb-left, absorb-right}
 use Rattle.apply.specs.PairLaws.{pair-test, pairs-root, pairs-closed, pairs-least, pairs-induct}
 use Rattle.apply.specs.VisitLaws.{visit-within, pairs-within, visit-nodup, visit-count}

@@ -28,7 +28,8 @@ use Rattle.mdp.specs.BackupLaws.{leaf-has, variants-sum, bound-none, backup-is}
 use Rattle.mdp.specs.RunLaws.{run-right}
 use Rattle.best.specs.Moves.{Move, move, actionAt, actionSum, moveSum, firstMove}
 use Rattle.best.specs.Best.{Rated, rated, better, bindingValue, bindingsBest, movesBest, bestAnswer}
-use Rattle.best.specs.Claims.{IsMove, FirstHighest, StepsBy, sumCalls}
+use Rattle.best.specs.Inner.{sumCalls}
+use Rattle.best.specs.Claims.{IsMove, FirstHighest, StepsBy}
 use Rattle.best.specs.Lead.{From, movesFrom, lead, Won}
 use Rattle.best.specs.LeadLaws.{first-none, first-is, from-all, from-head, from-tail, in-movesFrom, movesFrom-in, movesFrom-order, lead-bound, lead-won, lead-append}
 

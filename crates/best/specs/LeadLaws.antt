@@ -13,7 +13,8 @@ use Rattle.basics.specs.Tests.{Cmp, below, equal, above, cmp, Flag, isTrue, isF
 use Rattle.state.specs.State.{State}
 use Rattle.state.specs.Max.{Tuple, none, more, tuples}
 use Rattle.paths.specs.PathLaws.{mem-map, mem-unmap}
-use Rattle.reduction.specs.Claims.{Sorted, Lower, differs, onwards}
+use Rattle.reduction.specs.Inner.{Sorted}
+use Rattle.reduction.specs.Claims.{Lower, differs, onwards}
 use Rattle.reduction.specs.CombinationLaws.{tuples-in, in-tuples}
 use Rattle.reduction.specs.OrderLaws.{sorted-append, sorted-map, tuples-order}
 use Rattle.mdp.specs.Model.{Action, Model}

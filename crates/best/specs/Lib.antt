@@ -43,6 +43,7 @@
 pub mod Moves
 pub mod Best
 pub mod Claims
+pub mod Inner
 pub mod Lead
 -- laws
 pub mod LeadLaws

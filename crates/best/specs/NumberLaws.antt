@@ -31,7 +31,7 @@ use Rattle.regression.specs.Regression.{Truths, resultOf, rowResult, rowResults
 use Rattle.mdp.specs.Model.{Variant, Action, Model}
 use Rattle.mdp.specs.Backup.{given, combined, variantsSum}
 use Rattle.best.specs.Best.{bestAnswer}
-use Rattle.best.specs.Claims.{Refuses, OfCall, OfBest, Stops, in-calls, in-binding, Stopped, here, later}
+use Rattle.best.specs.Inner.{Refuses, OfCall, OfBest, Stops, in-calls, in-binding, Stopped, here, later}
 use Rattle.best.specs.RefusalLaws.{refused-stopped}
 
 -- ===== What refuses an outcome =====

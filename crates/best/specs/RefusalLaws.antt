@@ -26,7 +26,7 @@ use Rattle.mdp.specs.Model.{Action, Model, scale, Every}
 use Rattle.mdp.specs.Backup.{combined, actionsBest, scaleEnds, rowOfCalls, backup}
 use Rattle.best.specs.Moves.{Move, move, firstMove}
 use Rattle.best.specs.Best.{Rated, rated, better, bindingValue, bindingsBest, movesBest, bestAnswer}
-use Rattle.best.specs.Claims.{sumCalls, HasSum, Passes, Stops, in-calls, in-binding, Stopped, here, later}
+use Rattle.best.specs.Inner.{sumCalls, HasSum, Passes, Stops, in-calls, in-binding, Stopped, here, later}
 
 ok-refused : {A : Type 0} {B : Type 0} {o : Outcome A} {a : A} {r : Refusal} → o ≡ ok a → o ≡ refused r → B
 ok-refused e f = let z : _≡_ {A = ℕ} 0 1 = cc in absurd (omega arith)

@@ -25,7 +25,8 @@ use Rattle.names.specs.ManyLaws.{length-many, getD-many}
 use Rattle.mdp.specs.Model.{Action, Model, Every, GoodAction}
 use Rattle.mdp.specs.Backup.{variantsSum}
 use Rattle.model.specs.declared.Head.{Head}
-use Rattle.model.specs.Layout.{actionWords, actionAt, modelOf, Laid}
+use Rattle.model.specs.Inner.{Laid}
+use Rattle.model.specs.Layout.{actionWords, actionAt, modelOf}
 use Rattle.steps.specs.declared.Step.{Step}
 use Rattle.steps.specs.declared.Step.the-variants.{Rows, Refused as Stopped}
 use Rattle.steps.specs.Steps.{Given}

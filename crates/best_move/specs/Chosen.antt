@@ -10,10 +10,11 @@ use Rattle.diagram.specs.Words.{isListing}
 use Rattle.diagram.specs.Listing.{diagramOf}
 use Rattle.state.specs.State.{meaning}
 use Rattle.state.specs.Lent.{stateOf, isState, mostObjects}
-use Rattle.fact_index.specs.Index.{indexedCount, Indexed}
+use Rattle.fact_index.specs.Inner.{indexedCount, Indexed}
 use Rattle.regression.specs.Parameters.{Within}
 use Rattle.model.specs.declared.Head.{Head}
-use Rattle.model.specs.Layout.{modelOf, Laid}
+use Rattle.model.specs.Inner.{Laid}
+use Rattle.model.specs.Layout.{modelOf}
 use Rattle.best.specs.Moves.{Move}
 use Rattle.best.specs.Best.{bestAnswer}
 use Rattle.best_move.specs.declared.Chosen.{Chosen}

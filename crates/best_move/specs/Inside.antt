@@ -25,7 +25,7 @@ use Rattle.steps.specs.declared.Step.{Step}
 use Rattle.steps.specs.declared.Step.the-variants.{Rows, Refused as Stopped}
 use Rattle.best.specs.Moves.{move, firstMove}
 use Rattle.best.specs.Best.{Rated, rated, better, bindingValue, bindingsBest, movesBest}
-use Rattle.fact_index.specs.Index.{indexedCount, Indexed}
+use Rattle.fact_index.specs.Inner.{indexedCount, Indexed}
 use Rattle.best_move.specs.declared.Lead.{Lead}
 use Rattle.best_move.specs.declared.Led.{Led}
 use Rattle.best_move.specs.declared.Led.the-variants.{To, Refused}

@@ -14,7 +14,7 @@ ghost use Rattle.label.specs.Limits.{parameterCount};
 ghost use Rattle.diagram.specs.Words.{isListing};
 ghost use Rattle.diagram.specs.Listing.{diagramOf};
 ghost use Rattle.diagram.specs.Variables.{isPlain};
-ghost use Rattle.model.specs.Layout.{Laid};
+ghost use Rattle.model.specs.Inner.{Laid};
 ghost use Rattle.planner.specs.Tasks.{ActionTask};
 ghost use Rattle.valuing.specs.Walks.{isFew, Prepared};
 ghost use Rattle.best_move.specs.Chosen.{chosenAs, bestChosen, BestTask};

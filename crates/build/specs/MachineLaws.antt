@@ -15,7 +15,8 @@ use Rattle.build.specs.Build.{readDiagram, held, textDiagram, rewardDiag
 use Rattle.build.specs.Machine.{mostTests, mostResults, Machine, given, closing, operation, operations, ending, build, built, builtClosed}
 use Rattle.reading.specs.Operations.{Op}
 use Rattle.reading.specs.Operations.Op.{ask, leafOp, step}
-use Rattle.reading.specs.Tree.{Reading, depth, opsOf}
+use Rattle.reading.specs.Inner.{depth}
+use Rattle.reading.specs.Tree.{Reading, opsOf}
 use Rattle.reading.specs.Tree.Reading.{branch, number}
 
 abbrev at : List Test → List Diagram → List Diagram → Machine

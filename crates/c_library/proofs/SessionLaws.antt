@@ -20,17 +20,21 @@ use Rattle.model.specs.Layout.{listingWords, tableWords}
 use Rattle.answers.specs.declared.Answer.the-variants.{Refused}
 use Rattle.answers.specs.declared.Put.{Put}
 use Rattle.answers.specs.declared.Put.the-variants.{At, Full}
-use Rattle.answers.specs.Writing.{mostBytes, putAnswer, putResult, Placed}
+use Rattle.answers.specs.Inner.{putAnswer, putResult, Placed}
+use Rattle.answers.specs.Writing.{mostBytes}
 use Rattle.session.specs.declared.Part.{Part}
 use Rattle.session.specs.Session.{Session, opening, withLive}
 use Rattle.session.specs.Good.{GoodSession}
 use Rattle.session.specs.Replies.{reply}
 use Rattle.session.specs.Texts.{hasBytes, linesOf, Progress, replyBytes, unfinished, closing, afterLine}
-use Rattle.facts.specs.Words.{stateWords, GoodLive, Remade}
+use Rattle.facts.specs.Inner.{Remade}
+use Rattle.facts.specs.Words.{stateWords, GoodLive}
 use Rattle.facts.specs.WordLaws.{reindexed-live}
 use Rattle.memory.specs.declared.Numbers.{Numbers}
-use Rattle.model_entry.specs.Starts.{Slot, hasStart, startsBehind, KeepsStarts}
-use Rattle.memory.specs.Memory.{Memory, memoryOf, sessionOf, startsOf, Stored, Carried, IsSession, Kept, workWords}
+use Rattle.model_entry.specs.Inner.{KeepsStarts}
+use Rattle.model_entry.specs.Starts.{Slot, hasStart, startsBehind}
+use Rattle.memory.specs.Inner.{Carried, Kept}
+use Rattle.memory.specs.Memory.{Memory, memoryOf, sessionOf, startsOf, Stored, IsSession, workWords}
 use Rattle.memory.specs.SlotLaws.{carried-starts}
 use Rattle.memory.specs.StoredLaws.{stored-state}
 use Rattle.memory.specs.Saving.{numberWords, savedWords, numbersAt, linesAt, metAt}
@@ -44,14 +48,16 @@ use Rattle.texts.specs.declared.Position.{Position}
 use Rattle.texts.specs.Running.{Filled, fits, allBytes, fillClosing, fillRest, Fills}
 use Rattle.texts.specs.RunningLaws.{rest-none}
 use Rattle.texts.specs.declared.Answered.{Answered}
-use Rattle.texts.specs.Sending.{Sends, mostLines, progressOf}
-use Rattle.texts.specs.Whole.{Whole, wholeFrom, startsFrom, wholeOf, Answerable, Reaches, CarriedOver}
+use Rattle.texts.specs.Inner.{Sends, progressOf, wholeOf, Answerable, Reaches, CarriedOver}
+use Rattle.texts.specs.Sending.{mostLines}
+use Rattle.texts.specs.Whole.{Whole, wholeFrom, startsFrom}
 use Rattle.restoring.specs.Restoring.{isSession}
 use Rattle.restoring.specs.KeptLaws.{session-is}
 use Rattle.checking.specs.DecisionLaws.{decided}
 use Rattle.checking.proofs.TestLaws.{stops, goes, refused, passed}
 use Rattle.c_library.specs.Answers.{roomNumber, entryNumber}
-use Rattle.c_library.specs.Sessions.{hasRoom, OpenOrLeft, Opens, hasRooms, isPlain, canAnswer, isOpen, progressAt, positionAt, putEnd, IsAnswered, IsUntouched, DoneOrLeft, startsAfter, Replies}
+use Rattle.c_library.specs.Inner.{positionAt, putEnd}
+use Rattle.c_library.specs.Sessions.{hasRoom, OpenOrLeft, Opens, hasRooms, isPlain, canAnswer, isOpen, progressAt, IsAnswered, IsUntouched, DoneOrLeft, startsAfter, Replies}
 use Rattle.c_library.specs.Sessions.{answeredLines, answeredStarts, AreAnswered, AreUntouched, RepliesAll, canClose, closingAt, IsClosed, IsUnclosed, Closes}
 
 -- ===== Room =====

@@ -2,6 +2,7 @@
 pub mod Answers
 pub mod Calls
 pub mod Sessions
+pub mod Inner
 -- theorems
 pub mod AlikeLaws
 pub mod OnlyLaws

@@ -10,10 +10,7 @@ use Rattle.diagram.specs.Sizes.{resultWords}
 use Rattle.names.specs.Layout.{nameWords}
 use Rattle.model.specs.Layout.{listingWords, tableWords}
 use Rattle.facts.specs.Words.{stateWords}
-use Rattle.answers.specs.declared.Put.{Put}
-use Rattle.answers.specs.declared.Put.the-variants.{At, Full}
 use Rattle.answers.specs.Writing.{mostBytes}
-use Rattle.texts.specs.declared.Position.{Position}
 use Rattle.session.specs.declared.Part.the-variants.{Model}
 use Rattle.session.specs.Session.{opening}
 use Rattle.session.specs.Texts.{Progress, afterLine, linesOf, closing}
@@ -84,15 +81,6 @@ isOpen numbers w more =
 -- how far the session is, its answers given away
 abbrev pub progressAt : List ℕ → Memory → Progress
 progressAt numbers w = record { session = sessionOf (numbersAt numbers) w; lines = linesAt numbers; met = metAt numbers; bytes = [] }
-
--- the same as the code has it
-abbrev pub positionAt : List ℕ → Position
-positionAt numbers = record { numbers = numbersAt numbers; lines = linesAt numbers; met = metAt numbers; end = 0 }
-
--- the place behind an answer that has room
-abbrev pub putEnd : Put → ℕ
-putEnd (At n) = n
-putEnd Full = 0
 
 -- where the listings of its model begin
 abbrev pub startsAt : List ℕ → Memory → SlotStarts

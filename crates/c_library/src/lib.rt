@@ -26,7 +26,8 @@ ghost use Rattle.memory.specs.Saving.{numberWords};
 ghost use Rattle.answers.specs.Writing.{mostBytes};
 ghost use Rattle.c_library.specs.Answers.{listingNumber, edgeNumber, entryNumber};
 ghost use Rattle.c_library.specs.Calls.{Combines, Regresses, Frees, Cuts, Reduces, Values, Runs};
-ghost use Rattle.c_library.specs.Sessions.{hasRoom, Opens, hasRooms, isPlain, canAnswer, isOpen, positionAt, putEnd, Replies, RepliesAll, canClose, Closes};
+ghost use Rattle.c_library.specs.Inner.{positionAt, putEnd};
+ghost use Rattle.c_library.specs.Sessions.{hasRoom, Opens, hasRooms, isPlain, canAnswer, isOpen, Replies, RepliesAll, canClose, Closes};
 
 // Whether the words are a listing under the arity list: 0, or 14.
 #[no_mangle]

@@ -18,7 +18,7 @@ use Rattle.diagram.specs.Words.{labelAt, highAt, lowAt, rowCount}
 use Rattle.diagram.specs.Listing.{listing, diagramOf}
 use Rattle.diagram.specs.Validity.{Valid, ValidRow, a-leaf, a-branch, tree}
 use Rattle.diagram.specs.DiagramOfListing.{shown-rows, diagram-is}
-use Rattle.diagram.specs.RowLists.{Written}
+use Rattle.diagram.specs.Inner.{Written}
 use Rattle.diagram.specs.WrittenRows.{written-listing-words}
 use Rattle.apply.specs.declared.Operation.{Operation}
 use Rattle.apply.specs.declared.Names.the-variants.{Shared}

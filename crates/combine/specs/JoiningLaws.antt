@@ -11,13 +11,13 @@ use Rattle.basics.specs.Tests.{Flag, isTrue, isFalse, flag}
 use Rattle.diagram.specs.Sizes.{spaceRows}
 use Rattle.diagram.specs.Diagram.{Diagram, leaf, branch}
 use Rattle.diagram.specs.Listing.{index}
-use Rattle.diagram.specs.RowLists.{Kept}
+use Rattle.diagram.specs.Inner.{Kept}
 use Rattle.diagram.specs.RowLaws.{kept-children}
 use Rattle.apply.specs.declared.Operation.{Operation}
 use Rattle.apply.specs.Combination.{operate}
 use Rattle.apply.specs.Apply.{apply}
 use Rattle.apply.specs.Pairs.{pairs, pairCount, overflows}
-use Rattle.apply.specs.Formed.{ClosedRows}
+use Rattle.apply.specs.Inner.{ClosedRows}
 use Rattle.store.specs.declared.Formed.{Formed}
 use Rattle.store.specs.declared.Formed.the-variants.{Row, Full}
 use Rattle.store.specs.Space.{diagramsOf, Holds, Formation, addAll}

@@ -12,7 +12,7 @@ use Rattle.apply.specs.declared.Operation.{Operation}
 use Rattle.apply.specs.Combination.{operate}
 use Rattle.apply.specs.Apply.{apply}
 use Rattle.apply.specs.Pairs.{pairs, pairCount, overflows}
-use Rattle.apply.specs.Formed.{ClosedRows}
+use Rattle.apply.specs.Inner.{ClosedRows}
 use Rattle.plan.specs.Walk.{Leading}
 use Rattle.plan.specs.Plan.{Index, Clean}
 use Rattle.combine.specs.RowPairs.{Operand}

@@ -11,14 +11,15 @@ use borrow.Author.Tests.{eqb-true, ne-eqb}
 use Rattle.basics.specs.Tests.{and-left}
 use Rattle.label.specs.Limits.{termEnd, predicateCount}
 use Rattle.label.specs.Labels.{areArities, isLabel}
-use Rattle.label.specs.Renamings.{mapOf, moved}
+use Rattle.label.specs.Inner.{mapOf}
+use Rattle.label.specs.Renamings.{moved}
 use Rattle.label.specs.Callers.{Movable}
 use Rattle.label.specs.declared.Label.{Label}
 use Rattle.label.specs.declared.Test.{Test}
 use Rattle.label.specs.declared.Test.the-variants.{Always, Is}
 use Rattle.label.specs.ArityLaws.{mem-at}
 use Rattle.paths.specs.Paths.{Literal}
-use Rattle.paths.specs.Routes.{AllInRange, literalAt, literalsIn}
+use Rattle.paths.specs.Inner.{AllInRange, literalAt, literalsIn}
 use Rattle.paths.specs.PathLaws.{label-range, mem-unmap}
 use Rattle.contradiction.specs.Contradiction.{someLiteral, asked, asksFor, affirms, isSaid, clashes, clashUnder, contradicts, representative}
 use Rattle.contradiction.specs.JoinLaws.{TermsBelow, terms-labels, representative-below}

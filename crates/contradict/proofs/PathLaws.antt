@@ -21,7 +21,8 @@ use Rattle.diagram.specs.RowDiagrams.{tree-fine}
 use Rattle.diagram.specs.DiagramOfListing.{diagram-is, valid-rows}
 use Rattle.diagram.specs.ListingValid.{listing-is-valid}
 use Rattle.paths.specs.Paths.{Literal, Path, paths, literals, mostPaths}
-use Rattle.paths.specs.Routes.{codeOf, codes, pathAt, Rows, Counted, At, Entered, literalsIn}
+use Rattle.paths.specs.Inner.{codeOf, codes, Rows, Counted, At, Entered, literalsIn}
+use Rattle.paths.specs.Routes.{pathAt}
 use Rattle.paths.specs.CodeLaws.{half, codes-are}
 use Rattle.paths.specs.PathLaws.{mem-unmap, path-in, paths-are, listing-rows}
 use Rattle.cutting.specs.Searchable.{PathLabels}

@@ -11,11 +11,11 @@ use borrow.Author.Tests.{eq-eqb, ne-eqb}
 use Rattle.basics.specs.Tests.{Cmp, cmp, below, equal, above}
 use Rattle.label.specs.Limits.{termEnd, equality}
 use Rattle.label.specs.Labels.{areArities, predicateOf, unpacked, termsOf}
-use Rattle.label.specs.Renamings.{mapOf}
+use Rattle.label.specs.Inner.{mapOf}
 use Rattle.label.specs.ArityLaws.{arity-two}
 use Rattle.label.specs.declared.Atom.{Atom}
 use Rattle.paths.specs.Paths.{Literal}
-use Rattle.paths.specs.Routes.{InRange, literalAt, literalsIn}
+use Rattle.paths.specs.Inner.{InRange, literalAt, literalsIn}
 use Rattle.paths.specs.PathLaws.{range-terms}
 use Rattle.contradiction.specs.Contradiction.{Equates, joining, representative}
 use Rattle.contradiction.specs.JoinLaws.{literal-names, literal-stays, representative-more}

@@ -9,7 +9,7 @@ use Rattle.diagram.specs.Diagram.{Diagram}
 use Rattle.diagram.specs.Words.{rowCount, isListing}
 use Rattle.diagram.specs.Validity.{tree}
 use Rattle.paths.specs.Paths.{paths, mostPaths}
-use Rattle.paths.specs.Routes.{Rows, Counted, At}
+use Rattle.paths.specs.Inner.{Rows, Counted, At}
 use Rattle.contradiction.specs.Contradiction.{leadsTo}
 use Rattle.contradict.specs.declared.Led.{Led}
 use Rattle.contradict.specs.declared.Led.the-variants.{Only, Others, Many}

@@ -6,9 +6,9 @@ use Prim.Native.Nat.{ℕ, _/_, _≤_, _<_}
 use lib.ListN.{length, getD, drop}
 use Rattle.label.specs.Limits.{termEnd}
 use Rattle.label.specs.Labels.{areArities, isLabel}
-use Rattle.label.specs.Renamings.{mapOf}
+use Rattle.label.specs.Inner.{mapOf}
 use Rattle.label.specs.Callers.{TermMap}
-use Rattle.paths.specs.Routes.{literalAt, literalsIn}
+use Rattle.paths.specs.Inner.{literalAt, literalsIn}
 use Rattle.contradiction.specs.Contradiction.{joining, joinLiteral, representative}
 
 -- the first n terms are their own representatives

@@ -27,7 +27,7 @@ use Rattle.spread.specs.Spread.{Entry, entryWords, entries, values, valueIn, en
 use Rattle.spread.specs.ChoiceLaws.{arities-few}
 use Rattle.spread.specs.LeafLaws.{entries-few}
 use Rattle.spread.specs.LentChoiceLaws.{lent-choice, choice-good, spread-many}
-use Rattle.fact_index.specs.Index.{Indexed, indexedCount, Clean}
+use Rattle.fact_index.specs.Inner.{Indexed, indexedCount, Clean}
 use Rattle.valuing.specs.Search.{Topping, Tops}
 use Rattle.valuing.specs.Walks.{boundNumber, boundAnswer, climbed, isFew, Prepared}
 use Rattle.valuing.specs.WalkLaws.{topping-room, prepared}

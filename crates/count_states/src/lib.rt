@@ -8,7 +8,7 @@ ghost use lib.Seq.{paste};
 ghost use Rattle.state.specs.Lent.{factWords, isState};
 ghost use Rattle.spread.specs.Ground.{ground, rowsOf, groundFacts, groundCount};
 ghost use Rattle.spread.specs.Spread.{spread};
-ghost use Rattle.fact_index.specs.Index.{Clean};
+ghost use Rattle.fact_index.specs.Inner.{Clean};
 ghost use Rattle.valuing.specs.Walks.{boundAnswer, climbed};
 ghost use Rattle.count_states.specs.Counted.{Countable, Counts};
 ghost use Rattle.count_states.specs.Facts.{Power, digits, firstFacts, Declared, Fillable, Writable, Follow, picked, Choosing, Chosen};

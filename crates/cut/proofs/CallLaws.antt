@@ -26,7 +26,7 @@ use Rattle.diagram.specs.ListingValid.{listing-is-valid}
 use Rattle.paths.specs.Paths.{paths, mostPaths}
 use Rattle.cutting.specs.Cut.{Choice, goes, stays, mayGo, choiceBelow, choice, chosenAnswer, diagramAnswer, cutDiagram, written, answerBuffer, cutAnswer, cutBuffer}
 use Rattle.cutting.specs.TruthLaws.{minimum-first}
-use Rattle.paths.specs.Routes.{Rows, Counted, Routed}
+use Rattle.paths.specs.Inner.{Rows, Counted, Routed}
 use Rattle.cutting.specs.declared.Edge.the-variants.{True, False}
 use Rattle.cutting.specs.declared.Cut.{Cut}
 use Rattle.cutting.specs.declared.Cut.the-variants.{Done, Refused}

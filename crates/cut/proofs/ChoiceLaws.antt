@@ -18,7 +18,7 @@ use Rattle.diagram.specs.Variables.{isPlain}
 use Rattle.diagram.specs.DiagramOfListing.{diagram-is, rows-are}
 use Rattle.diagram.specs.ListingValid.{listing-is-valid}
 use Rattle.cutting.specs.Cut.{goes, stays, mayGo, choiceBelow, choice}
-use Rattle.paths.specs.Routes.{Routed, Leaves}
+use Rattle.paths.specs.Inner.{Routed, Leaves}
 use Rattle.cut.specs.declared.Chosen.the-variants.{Edge, Nothing}
 use Rattle.cut.specs.Choosing.{Sides, Charted, Known, Asking, Edged, Tested, EdgeFound, firstEdge, chosenAs}
 use Rattle.paths.specs.PathLaws.{row-is}

@@ -18,7 +18,7 @@ use Rattle.diagram.specs.Words.{labelAt, highAt}
 use Rattle.diagram.specs.Validity.{tree}
 use Rattle.cutting.specs.Cut.{covers, mayGo}
 use Rattle.paths.specs.Paths.{mostPaths}
-use Rattle.paths.specs.Routes.{Rows, Sided}
+use Rattle.paths.specs.Inner.{Rows, Sided}
 use Rattle.paths.proofs.RouteLaws.{routed-at}
 use Rattle.matcher.specs.Stored.{Enterable}
 use Rattle.matcher.specs.Covering.{Held}

@@ -18,10 +18,10 @@ use Rattle.diagram.specs.Listing.{listing, diagramOf}
 use Rattle.diagram.specs.Validity.{tree}
 use Rattle.diagram.specs.Variables.{closed}
 use Rattle.diagram.specs.Shown.{same-eqb}
-use Rattle.paths.specs.Routes.{bit, Rows}
+use Rattle.paths.specs.Inner.{bit, Rows}
 use Rattle.paths.specs.PathLaws.{listing-rows, row-is}
 use Rattle.cutting.specs.Cut.{cutAt, reduced, cutDiagram, written}
-use Rattle.reduction.specs.Claims.{allBut}
+use Rattle.reduction.specs.Inner.{allBut}
 use Rattle.reduction.specs.KeepingLaws.{cut-keeping}
 use Rattle.pruning.specs.Pruning.{keptOf, edgeAt, Agrees, Prunable, Pruned}
 use Rattle.cut.specs.Calls.{Writable, Trimmed}

@@ -13,7 +13,8 @@ use Rattle.diagram.specs.Validity.{tree}
 use Rattle.diagram.specs.Variables.{isPlain}
 use Rattle.paths.specs.Paths.{Path, mostPaths}
 use Rattle.cutting.specs.Cut.{Choice, goes, stays, covers, mayGo}
-use Rattle.paths.specs.Routes.{Routed, Leaves, Sided, pathAt}
+use Rattle.paths.specs.Inner.{Routed, Leaves, Sided}
+use Rattle.paths.specs.Routes.{pathAt}
 use Rattle.matcher.specs.Covering.{Held}
 use Rattle.cut.specs.declared.Chosen.{Chosen}
 use Rattle.cut.specs.declared.Chosen.the-variants.{Edge, Nothing}

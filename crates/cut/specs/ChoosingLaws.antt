@@ -14,7 +14,8 @@ use Rattle.diagram.specs.WordLaws.{map-snoc}
 use Rattle.diagram.specs.Validity.{tree}
 use Rattle.paths.specs.Paths.{Path, paths, through}
 use Rattle.cutting.specs.Cut.{isCover, isFree, somePath, everyPath, mayGo, target}
-use Rattle.paths.specs.Routes.{Routed, Sided, pathAt}
+use Rattle.paths.specs.Inner.{Routed, Sided}
+use Rattle.paths.specs.Routes.{pathAt}
 use Rattle.paths.specs.PathLaws.{paths-are}
 use Rattle.cut.specs.Choosing.{pathOf, Edged, isCoverOn, coverBelow, isFreeOn, freeBelow}
 

@@ -17,7 +17,7 @@ ghost use Rattle.diagram.specs.Listing.{diagramOf};
 ghost use Rattle.diagram.specs.Validity.{tree};
 ghost use Rattle.diagram.specs.Variables.{isPlain};
 ghost use Rattle.cutting.specs.Cut.{covers, mayGo, choice, diagramAnswer, answerBuffer, cutAnswer, cutBuffer};
-ghost use Rattle.paths.specs.Routes.{Rows, Routed};
+ghost use Rattle.paths.specs.Inner.{Rows, Routed};
 ghost use Rattle.paths.specs.Paths.{mostPaths};
 ghost use Rattle.matcher.specs.Stored.{Enterable};
 ghost use Rattle.matcher.specs.Covering.{Held};

@@ -33,7 +33,7 @@ use Rattle.cutting.specs.Cut.{Replacement, Cover, target, MayGo, may, co
 use Rattle.label.specs.ArityLaws.{terms-below, terms-atom}
 use Rattle.cutting.specs.MatchLaws.{matches-sound, matches-complete}
 use Rattle.cutting.specs.Searchable.{PathLabels, AllLabels, Searchable}
-use Rattle.paths.specs.Routes.{InRange}
+use Rattle.paths.specs.Inner.{InRange}
 use Rattle.paths.specs.PathLaws.{mem-unmap, label-range}
 
 -- ===== Literals of a path have labels =====

@@ -19,7 +19,7 @@ use Rattle.label.specs.declared.Test.the-variants.{Always, Is}
 use Rattle.diagram.specs.Diagram.{Diagram, leaf, branch, eval, relabel}
 use Rattle.diagram.specs.Variables.{isPlain}
 use Rattle.state.specs.State.{atomOf, meaning, State, truth, holds, value, Fits}
-use Rattle.state.specs.Highest.{Highest}
+use Rattle.state.specs.Inner.{Highest}
 use Rattle.state.specs.HighestLaws.{highest-by, highest-same}
 use Rattle.minimum.specs.Number.{Number}
 use Rattle.minimum.specs.Operations.{Plain}

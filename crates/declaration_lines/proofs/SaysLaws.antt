@@ -20,7 +20,8 @@ use Rattle.mdp.specs.Model.{mostActions}
 use Rattle.text.specs.declared.Kind.the-variants.{Constant, Predicate, Total, Discount, Action}
 use Rattle.events.specs.declared.Next.{Next}
 use Rattle.events.specs.Events.{firstWord}
-use Rattle.events.specs.Front.{nextAt, eventsOf}
+use Rattle.events.specs.Inner.{nextAt}
+use Rattle.events.specs.Front.{eventsOf}
 use Rattle.events.specs.Contents.{keyIn, numberIn, wordAt, keysIn}
 use Rattle.answers.specs.declared.Answer.the-variants.{Refused as RefusedAs, Nothing}
 use Rattle.session.specs.declared.Part.{Part}
@@ -31,17 +32,20 @@ use Rattle.session.specs.Replies.{done, wordsOf}
 use Rattle.declare.specs.declared.Counts.{Counts}
 use Rattle.declare.specs.declared.Declared.{Declared}
 use Rattle.declare.specs.declared.Declared.the-variants.{Done, Refused}
-use Rattle.declare.specs.Tables.{namesOf, Named, Naming, vocabularyOf, GoodVocabulary, Worded, Wording}
+use Rattle.declare.specs.Inner.{Named, Naming, vocabularyOf, Worded, Wording}
+use Rattle.declare.specs.Tables.{namesOf, GoodVocabulary}
 use Rattle.facts.specs.Words.{liveOf}
 use Rattle.facts.specs.WordLaws.{index-quiet}
 use Rattle.model.specs.declared.Head.{Head}
 use Rattle.model.specs.Layout.{modelOf}
-use Rattle.model_entry.specs.Building.{Building, withActions, newAction}
+use Rattle.model_entry.specs.Inner.{withActions}
+use Rattle.model_entry.specs.Building.{Building, newAction}
 use Rattle.model_entry.specs.Adding.{ActionRoom, ActionAdded}
 use Rattle.model_entry.specs.StartLaws.{starts-same}
 use Rattle.planner.specs.Run.{heldIn}
 use Rattle.memory.specs.declared.Numbers.{Numbers}
-use Rattle.memory.specs.Memory.{Memory, memoryOf, sessionOf, Stored, Ready, Carried}
+use Rattle.memory.specs.Inner.{Ready, Carried}
+use Rattle.memory.specs.Memory.{Memory, memoryOf, sessionOf, Stored}
 use Rattle.memory.specs.WordLaws.{first-is, second-is, rest-is}
 use Rattle.memory.specs.CarriedLaws.{carried-on}
 use Rattle.memory.specs.QuietLaws.{quiet-refused, quiet-done, no-run}

@@ -9,7 +9,8 @@ use Rattle.forms.specs.Tree.{manyBytes}
 use Rattle.text.specs.declared.Kind.the-variants.{Constant, Predicate, Total, Discount, Action}
 use Rattle.text.specs.Line.{parameterBytes}
 use Rattle.events.specs.Events.{firstWord, parameterEvent, wordsEvents}
-use Rattle.events.specs.Front.{nextAt, isEnd, eventsOf}
+use Rattle.events.specs.Inner.{nextAt}
+use Rattle.events.specs.Front.{isEnd, eventsOf}
 use Rattle.events.specs.FrontLaws.{next-end, next-more}
 use Rattle.events.specs.LineEvents.{line-events}
 use Rattle.names.specs.Layout.{actionsAt}
@@ -18,7 +19,8 @@ use Rattle.declare.specs.Tables.{namesOf}
 use Rattle.names.specs.ManyLaws.{length-many}
 use Rattle.model.specs.Layout.{actionAt, modelOf}
 use Rattle.memory.specs.declared.Numbers.{Numbers}
-use Rattle.memory.specs.Memory.{memoryOf, sessionOf, LineOf, Ready, workWords}
+use Rattle.memory.specs.Inner.{LineOf, Ready}
+use Rattle.memory.specs.Memory.{memoryOf, sessionOf, workWords}
 use Rattle.memory.specs.WordLaws.{line-begins, line-ends}
 use Rattle.declaration_lines.specs.Lines.{ForConstant, ForPredicate, ForAction}
 

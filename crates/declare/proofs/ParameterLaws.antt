@@ -8,14 +8,16 @@ use borrow.Author.Tests.{lt-ltb, le-ltb, le-leb, lt-leb}
 use lib.ListN.{length, getD, drop, length-drop, length-append, length-map}
 use Rattle.label.specs.Limits.{parameterCount}
 use Rattle.words.specs.declared.Key.{Key}
-use Rattle.names.specs.Keys.{keyAt, keysAt, placeOf, isAmong, putKey}
+use Rattle.names.specs.Inner.{putKey}
+use Rattle.names.specs.Keys.{keyAt, keysAt, placeOf, isAmong}
 use Rattle.names.specs.Layout.{constantsAt, declaredAt, actionsAt, parametersAt, variantsAt, nameWords}
 use Rattle.names.specs.KeyLaws.{key-ext, among-at, among-none, length-keys, keys-same, length-put, put-before, put-behind, keys-more}
 use Rattle.names.specs.Many.{many}
 use Rattle.names.specs.ManyLaws.{many-more}
 use Rattle.events.specs.declared.Event.{Event}
 use Rattle.events.specs.declared.Next.{Next}
-use Rattle.events.specs.Front.{isEnd, nextAt, eventsOf}
+use Rattle.events.specs.Inner.{nextAt}
+use Rattle.events.specs.Front.{isEnd, eventsOf}
 use Rattle.events.specs.FrontLaws.{next-end, next-more, next-moves, events-short}
 use Rattle.events.specs.Contents.{keyIn, keysIn}
 use Rattle.refusal.specs.declared.Refusal.the-variants.{Name, Space}
@@ -27,7 +29,8 @@ use Rattle.declare.specs.declared.Counts.{Counts}
 use Rattle.declare.specs.declared.Declared.the-variants.{Done, Refused}
 use Rattle.declare.specs.declared.Parameters.{Parameters}
 use Rattle.declare.specs.declared.Parameters.the-variants.{Distinct, Twice}
-use Rattle.declare.specs.Tables.{namesOf, GoodNames, Naming, Distinguished, ParametersOf, Copied}
+use Rattle.declare.specs.Inner.{Naming, Distinguished, ParametersOf, Copied}
+use Rattle.declare.specs.Tables.{namesOf, GoodNames}
 use Rattle.declare.proofs.TableLaws.{names-ext}
 
 -- ===== Reading them =====

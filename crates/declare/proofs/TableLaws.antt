@@ -13,7 +13,8 @@ use Rattle.label.specs.Limits.{predicateCount, mostPlaces, equality, equalityAr
 use Rattle.label.specs.Labels.{allAtMost, areArities}
 use Rattle.refusal.specs.declared.Refusal.the-variants.{Name, Range, Space}
 use Rattle.words.specs.declared.Key.{Key}
-use Rattle.names.specs.Keys.{keysAt, placeOf, putKey}
+use Rattle.names.specs.Inner.{putKey}
+use Rattle.names.specs.Keys.{keysAt, placeOf}
 use Rattle.names.specs.Layout.{constantsAt, declaredAt, actionsAt, parametersAt, variantsAt}
 use Rattle.names.specs.KeyLaws.{among-at, among-none, length-keys, keys-same, length-put, put-before, put-behind, keys-more}
 use Rattle.refusal.specs.Outcome.{ok}
@@ -22,7 +23,8 @@ use Rattle.session.specs.Session.{Names}
 use Rattle.session.specs.Declaring.{isDeclared, constantLine, Vocabulary, predicateLine, isTotal, isDiscount}
 use Rattle.declare.specs.declared.Counts.{Counts}
 use Rattle.declare.specs.declared.Declared.the-variants.{Done, Refused}
-use Rattle.declare.specs.Tables.{namesOf, GoodNames, Naming, vocabularyOf, GoodVocabulary, Wording}
+use Rattle.declare.specs.Inner.{Naming, vocabularyOf, Wording}
+use Rattle.declare.specs.Tables.{namesOf, GoodNames, GoodVocabulary}
 
 pub names-ext : (x y : Names) → x .constants ≡ y .constants → x .predicates ≡ y .predicates → x .actions ≡ y .actions → x .parameters ≡ y .parameters
     → x .variants ≡ y .variants → x .earlier ≡ y .earlier → x ≡ y

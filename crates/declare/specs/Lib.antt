@@ -1,2 +1,3 @@
 -- A session's names in lent words.
 pub mod Tables
+pub mod Inner

@@ -11,7 +11,8 @@ ghost use Rattle.names.specs.Layout.{nameWords};
 ghost use Rattle.events.specs.Front.{eventsOf};
 ghost use Rattle.events.specs.Contents.{keysIn};
 ghost use Rattle.session.specs.Declaring.{isDeclared, constantLine, predicateLine, isTotal, isDiscount, actionLine};
-ghost use Rattle.declare.specs.Tables.{namesOf, GoodNames, Naming, vocabularyOf, GoodVocabulary, Wording, ParametersOf, Copied};
+ghost use Rattle.declare.specs.Inner.{Naming, vocabularyOf, Wording, ParametersOf, Copied};
+ghost use Rattle.declare.specs.Tables.{namesOf, GoodNames, GoodVocabulary};
 
 // How many names there are of each sort; parameters and variants are those of the last action, `earlier` the variants of those before it.
 pub struct Counts {

@@ -31,7 +31,7 @@ use Rattle.mdp.specs.Model.{Variant, Action, Model, scale, Every, GoodTruthDiag
 use Rattle.mdp.specs.Backup.{combined, variantsSum, actionsBest, rowOfCalls, scaleEnds, backup}
 use Rattle.mdp.specs.BackupLaws.{weight-within}
 use Rattle.session.specs.Good.{GoodValue}
-use Rattle.declared.specs.Declares.{Constant, DeclaredLabel, Declares, DeclaredVariant, DeclaredAction}
+use Rattle.declared.specs.Inner.{Constant, DeclaredLabel, Declares, DeclaredVariant, DeclaredAction}
 use Rattle.declared.specs.Proper.{Proper, AllProper, Known, KnownArgument}
 use Rattle.declared.specs.ClosingLaws.{every-mono, proper-mono, closed-proper, combined-proper, cut-proper, reduced-proper}
 use Rattle.declared.specs.RegressLaws.{regressed-proper, freed-proper}

@@ -16,14 +16,16 @@ use Rattle.label.specs.Limits.{firstVariable, variableCount, firstMinimum, mini
 use Rattle.label.specs.Terms.{isTerm}
 use Rattle.label.specs.Labels.{areArities, predicateOf, unpacked, termsOf}
 use Rattle.label.specs.LabelLaws.{term-below}
-use Rattle.label.specs.Renamings.{mapped, renamed, numbering, Increasing, EachIn}
+use Rattle.label.specs.Inner.{Increasing}
+use Rattle.label.specs.Renamings.{mapped, renamed, numbering, EachIn}
 use Rattle.label.specs.RenamingLaws.{renamed-atom, renamed-label, renamed-terms, Numbered, numbering-low, numbering-variable, numbering-minimum, numbering-increasing}
 use Rattle.label.specs.declared.Atom.{Atom}
 use Rattle.diagram.specs.Diagram.{Diagram, leaf, branch, relabel, EveryLabel}
 use Rattle.diagram.specs.Variables.{occurs, variables, minimums, closedFrom, closed, after}
 use Rattle.diagram.specs.Rows.{rows}
 use Rattle.diagram.specs.RowLists.{rowTree}
-use Rattle.rename.specs.Relabelling.{Terms, KindsFit}
+use Rattle.rename.specs.Inner.{KindsFit}
+use Rattle.rename.specs.Relabelling.{Terms}
 use Rattle.rename.specs.TermLaws.{label-terms}
 use Rattle.rename.specs.VariableLaws.{occurs-terms, terms-each-occurs, occurs-variable, variables-few, occurs-minimum, minimums-few}
 use Rattle.rename.specs.ClosingLaws.{after-fit}

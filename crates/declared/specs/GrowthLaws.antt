@@ -11,7 +11,7 @@ use Rattle.state.specs.Terms.{Each}
 use Rattle.state.specs.ValueLaws.{Each-mono}
 use Rattle.mdp.specs.Model.{Variant, Action, Every}
 use Rattle.model_laws.specs.ActionLaws.{every-mono}
-use Rattle.declared.specs.Declares.{Constant, DeclaredLabel, Declares, DeclaredVariant, DeclaredAction}
+use Rattle.declared.specs.Inner.{Constant, DeclaredLabel, Declares, DeclaredVariant, DeclaredAction}
 use Rattle.declared.specs.ClosingLaws.{every-mono as labels-mono}
 
 module _ (ar br : List ℕ) (c d p q : ℕ) (constants : c ≤ d) (predicates : p ≤ q) (same : (i : ℕ) → i ≤ p → getD br i 0 ≡ getD ar i 0) where

@@ -33,6 +33,7 @@
 -- definitions
 pub mod Declares
 pub mod RewardAgain
+pub mod Inner
 -- inner
 pub mod Proper
 -- laws

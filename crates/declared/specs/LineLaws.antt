@@ -40,7 +40,7 @@ use Rattle.reading.specs.declared.Binding.the-variants.{Any, None, Only}
 use Rattle.reading.specs.Reading.{arguments, reading}
 use Rattle.reading.specs.Numbering.{metFirst, rewardReading}
 use Rattle.reading.specs.Head.{headNumber, headArguments}
-use Rattle.reading.specs.Tree.{NamesFit}
+use Rattle.reading.specs.Inner.{NamesFit}
 use Rattle.build.specs.Machine.{mostTests, built, builtClosed}
 use Rattle.session.specs.declared.Part.the-variants.{Model, Run}
 use Rattle.session.specs.declared.Rule.the-variants as R
@@ -58,7 +58,7 @@ use Rattle.session_laws.specs.PlaceLaws.{in-run}
 use Rattle.session_laws.specs.ReplyLaws.{Standing, line-standing}
 use Rattle.session_laws.specs.RunLaws.{made-by}
 use Rattle.session_laws.specs.CaseLaws.{Cases, vocabularyOf, done-by, reply-by}
-use Rattle.declared.specs.Declares.{Declares, DeclaredVariant, DeclaredAction, NameKey, DeclaredSession}
+use Rattle.declared.specs.Inner.{Declares, DeclaredVariant, DeclaredAction, NameKey, DeclaredSession}
 use Rattle.declared.specs.NameLaws.{name-is-key, keys-more}
 use Rattle.declared.specs.GrowthLaws.{declares-grown, actions-grown}
 use Rattle.declared.specs.ReadLaws.{text-declares, reward-declares}

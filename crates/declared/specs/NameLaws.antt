@@ -20,7 +20,7 @@ use Rattle.session.specs.Session.{Names}
 use Rattle.diagram_form.specs.Form.{tablesOf}
 use Rattle.round_trip.specs.RoundTrip.{Different, AreNames, Declared}
 use Rattle.round_trip.specs.KeyNames.{KeysOf}
-use Rattle.declared.specs.Declares.{NameKey, NameKeys}
+use Rattle.declared.specs.Inner.{NameKey, NameKeys}
 
 pub name-is-key : (n : List ℕ) → IsName n → NameKey (keyOf n)
 name-is-key n h = record { named = subst IsName (sym (name-of n h)) h; key = ap keyOf (name-of n h) }

@@ -8,7 +8,7 @@ use Rattle.label.specs.Labels.{isLabel, predicateOf, unpacked, termsOf}
 use Rattle.diagram.specs.Diagram.{Diagram, EveryLabel}
 use Rattle.state.specs.Terms.{Each}
 use Rattle.regression.specs.Parameters.{Allowed}
-use Rattle.declared.specs.Declares.{Constant}
+use Rattle.declared.specs.Inner.{Constant}
 
 -- a label under the arity list, its predicate up to p, its terms in P
 pub record Proper (ar : List ℕ) (p : ℕ) (P : ℕ → Type 0) (l : ℕ) : Type 0 where

@@ -32,9 +32,10 @@ use Rattle.forms.specs.Tree.Diagram.{number as numeral, branch as conditional}
 use Rattle.events.specs.Events.{diagramEvents}
 use Rattle.reading.specs.declared.Binding.{Binding}
 use Rattle.reading.specs.declared.Binding.the-variants.{Any, None, Only}
-use Rattle.reading.specs.Reading.{Names, Met, Written, constantNumber, parameterNumber, met, numberIn, variableNumber, minimumNumber, variableMet, minimumMet, reading}
+use Rattle.reading.specs.Reading.{Environment, Met, Written, constantNumber, parameterNumber, met, numberIn, variableNumber, minimumNumber, variableMet, minimumMet, reading}
 use Rattle.reading.specs.OutcomeLaws.{apart, ok-one, chosen, passed, chained}
-use Rattle.reading.specs.Tree.{Reading, Result, resolveTerm, resolveTerms, testing, resolveAtom, branching, resolveDiagram, GoodReading, NamesFit}
+use Rattle.reading.specs.Inner.{GoodReading, NamesFit}
+use Rattle.reading.specs.Tree.{Reading, Result, resolveTerm, resolveTerms, testing, resolveAtom, branching, resolveDiagram}
 use Rattle.reading.specs.Tree.Reading.{number, branch}
 use Rattle.reading.specs.TreeLaws.{Resolving, terms-resolved}
 use Rattle.reading.specs.GoodLaws.{had}
@@ -43,7 +44,7 @@ use Rattle.build.specs.Machine.{mostTests, built, builtClosed}
 use Rattle.build.specs.MachineLaws.{built-text, built-reward}
 use Rattle.build.specs.ReadingLaws.{labels-for, text-held, reward-held}
 use Rattle.uniqueness.specs.WrittenLaws.{Resolved, resolved}
-use Rattle.declared.specs.Declares.{Constant, DeclaredLabel, Declares}
+use Rattle.declared.specs.Inner.{Constant, DeclaredLabel, Declares}
 use Rattle.declared.specs.Proper.{Proper}
 use Rattle.declared.specs.ClosingLaws.{closed-proper}
 use Rattle.declared.specs.BackupLaws.{proper-declared}
@@ -156,7 +157,7 @@ declared-below : (ks : List Key) (k : Key) → isAmong k ks ≡ true → placeOf
 unfolding isAmong
 declared-below ks k e = ltb-true (placeOf k ks) (length ks) e
 
-module _ (σ : Names) (fit : NamesFit σ) where
+module _ (σ : Environment) (fit : NamesFit σ) where
   resolving : Resolving σ (Fitting (length (σ .constants))) (λ us. Unit {0})
   resolving = record { each = each }
     where

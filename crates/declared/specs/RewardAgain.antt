@@ -5,18 +5,11 @@ use mathlib.Core.Bool.{false}
 use mathlib.Core.List.{List, [], _∷_, _++_}
 use Prim.Native.Nat.{ℕ, _≤_}
 use Rattle.diagram.specs.Listing.{listing}
-use Rattle.text.specs.Line.{Line}
 use Rattle.session.specs.declared.Part.the-variants.{Model}
 use Rattle.session.specs.Session.{Session}
 use Rattle.session.specs.ModelLines.{mostModelRows, rowsWith, withReward}
-use Rattle.session.specs.Running.{tablesIn}
 use Rattle.session.specs.Replies.{silent, reply}
 use Rattle.session.specs.Texts.{lineFeed, linesOf}
-use Rattle.diagram_form.specs.Form.{rewardOf}
-
--- the line (reward FORM) of the session's value diagram
-abbrev pub valueLine : Session → Line
-valueLine σ = rewardOf (σ .model .arities) (tablesIn (σ .names)) (σ .held .diagram)
 
 -- τ is in its model part, has no reward yet, and the constants and predicates of σ in their order
 pub record SameNames (σ τ : Session) : Type 0 where

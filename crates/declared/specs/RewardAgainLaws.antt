@@ -21,7 +21,7 @@ use Rattle.events.specs.Events.{diagramEvents}
 use Rattle.events.specs.LineEvents.{line-events}
 use Rattle.answers.specs.declared.Answer.the-variants as A
 use Rattle.reading.specs.declared.Binding.the-variants.{Any}
-use Rattle.reading.specs.Reading.{Names as ReadingNames, Written}
+use Rattle.reading.specs.Reading.{Environment, Written}
 use Rattle.reading.specs.Numbering.{rewardReading}
 use Rattle.build.specs.Machine.{builtClosed}
 use Rattle.session.specs.declared.Part.{Part}
@@ -30,10 +30,10 @@ use Rattle.session.specs.Place.{ruleOf}
 use Rattle.session.specs.Session.{Names, Session, refuseIf}
 use Rattle.session.specs.ModelLines.{mostModelRows, namesFor, rowsWith, withReward, rewardRead, rewardLine}
 use Rattle.session.specs.Running.{tablesIn}
-use Rattle.session.specs.Replies.{Reply, refusal, silent, allowed, unless, done, placed, quietly, replyTo, wordsOf, reply}
+use Rattle.session.specs.Replies.{Reply, refusal, silent, allowed, unless, done, atPlace, quietly, replyTo, wordsOf, reply}
 use Rattle.session.specs.Good.{GoodSession}
 use Rattle.session.specs.Texts.{lineFeed, Lines, linesOf, Progress, valueForm, replyBytes, afterLine, afterLines, afterRest, beginning, textRead}
-use Rattle.session_laws.specs.LineAnswers.{Prints}
+use Rattle.session_laws.specs.Inner.{Prints}
 use Rattle.session_laws.specs.CaseLaws.{reply-line}
 use Rattle.session_laws.specs.PrintLaws.{reply-prints}
 use Rattle.session_laws.specs.FoldLaws.{read-then}
@@ -44,7 +44,8 @@ use Rattle.round_trip.specs.RoundTrip.{rewardNames}
 use Rattle.acceptance.specs.ReadAgain.{ReadAgain}
 use Rattle.acceptance.specs.SessionLaws.{value-accepted}
 use Rattle.declared.specs.Declares.{Named}
-use Rattle.declared.specs.RewardAgain.{valueLine, SameNames, CanTake, rewardWith, ReadBack}
+use Rattle.declared.specs.Inner.{valueLine}
+use Rattle.declared.specs.RewardAgain.{SameNames, CanTake, rewardWith, ReadBack}
 use Rattle.declared.specs.TextLaws.{text-declared}
 
 -- ===== A reward line that stands where it may =====
@@ -66,7 +67,7 @@ reward-reply τ number t g p r =
     reply-line τ number bytes (λ z. omega arith)
     ∙ ap (λ (k : Kind). replyTo τ number k (wordsOf k bytes)) (line-complete (line K.Reward t) g)
     ∙ ap (λ (es : List Event). replyTo τ number K.Reward es) (line-events K.Reward t (g .0))
-    ∙ ap (λ (o : Outcome (Unit {0})). placed τ number o (done τ number K.Reward (diagramEvents t))) (place-free τ p r)
+    ∙ ap (λ (o : Outcome (Unit {0})). atPlace τ number o (done τ number K.Reward (diagramEvents t))) (place-free τ p r)
 
 -- ===== The form's line =====
 
@@ -110,7 +111,7 @@ module _ (σ : Session) (good : GoodSession σ) (named : Named σ) (run : σ .pa
 
     words-read : rewardReading (namesFor (τ .names) (τ .model .arities) Any []) (diagramEvents tree) ≡ ok (again .trip .words)
     unfolding tree
-    words-read = ap (λ (ν : ReadingNames). rewardReading ν (diagramEvents tree)) names-same ∙ again .trip .accepted
+    words-read = ap (λ (ν : Environment). rewardReading ν (diagramEvents tree)) names-same ∙ again .trip .accepted
 
     -- the line is answered by nothing, and the diagram is the reward, unless its rows find no room
     answered : (number : ℕ) → reply τ number (lineBytes (valueLine σ)) ≡ rewarded τ number (roomy (τ .rows) (σ .held .diagram))

@@ -15,7 +15,8 @@ use Rattle.session.specs.Replies.{reply}
 use Rattle.session.specs.Texts.{hasBytes, Progress, replied, afterLine, afterLines, afterRest, beginning, linesOf, textRead}
 use Rattle.session_laws.specs.TextLaws.{Sound, reply-sound, text-sound}
 use Rattle.diagram_form.specs.Form.{tablesOf}
-use Rattle.declared.specs.Declares.{Constant, Declares, DeclaredSession, Named}
+use Rattle.declared.specs.Inner.{Constant, Declares, DeclaredSession}
+use Rattle.declared.specs.Declares.{Named}
 use Rattle.declared.specs.NameLaws.{no-keys, keys-of, tables-declared}
 use Rattle.declared.specs.LineLaws.{reply-declared}
 

@@ -36,7 +36,8 @@ use Rattle.best_move.specs.declared.Chosen.{Chosen}
 use Rattle.best_move.specs.declared.Chosen.the-variants.{Move as TheMove, Refused}
 use Rattle.best_move.specs.Chosen.{chosenAs, BestTask}
 use Rattle.memory.specs.declared.Numbers.{Numbers}
-use Rattle.memory.specs.Memory.{Memory, sessionOf, Ready, Answers}
+use Rattle.memory.specs.Inner.{Ready, Answers}
+use Rattle.memory.specs.Memory.{Memory, sessionOf}
 use Rattle.memory.specs.CarriedLaws.{carried-same}
 use Rattle.desk_lines.specs.Lines.{MoveTask, BestAnswered}
 

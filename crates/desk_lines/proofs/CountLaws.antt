@@ -20,7 +20,7 @@ use Rattle.spread.specs.Ground.{mostGround, groundCount}
 use Rattle.spread.specs.Spread.{Entry, entryWords, someTooLarge, spread}
 use Rattle.events.specs.declared.Next.{Next}
 use Rattle.events.specs.Events.{firstWord}
-use Rattle.events.specs.Front.{nextAt}
+use Rattle.events.specs.Inner.{nextAt}
 use Rattle.events.specs.Contents.{numberIn}
 use Rattle.answers.specs.declared.Answer.{Answer}
 use Rattle.answers.specs.declared.Answer.the-variants as A
@@ -36,7 +36,8 @@ use Rattle.count_states.specs.declared.Counted.{Counted}
 use Rattle.count_states.specs.declared.Counted.the-variants.{Lines, Refused}
 use Rattle.count_states.specs.Counted.{countedAs, Counts}
 use Rattle.memory.specs.declared.Numbers.{Numbers}
-use Rattle.memory.specs.Memory.{Memory, memoryOf, sessionOf, Ready, Answers, Shown}
+use Rattle.memory.specs.Inner.{Ready, Answers, Shown}
+use Rattle.memory.specs.Memory.{Memory, memoryOf, sessionOf}
 use Rattle.memory.specs.CarriedLaws.{carried-same}
 use Rattle.memory.specs.WordLaws.{first-is}
 use Rattle.memory.specs.RunLaws.{run-holding}

@@ -9,14 +9,15 @@ use Rattle.refusal.specs.declared.Refusal.{Refusal}
 use Rattle.refusal.specs.Outcome.{Outcome, ok, andThen}
 use Rattle.label.specs.Limits.{constantCount, mostPlaces, parameterCount}
 use Rattle.state.specs.Lent.{factWords, mostFacts}
-use Rattle.fact_index.specs.Index.{Indexed, Clean}
+use Rattle.fact_index.specs.Inner.{Indexed, Clean}
 use Rattle.valuing.proofs.CheckLaws.{lent-some}
 use Rattle.words.specs.declared.Key.{Key}
 use Rattle.text.specs.declared.Kind.the-variants as K
 use Rattle.events.specs.declared.Next.{Next}
 use Rattle.events.specs.declared.Event.{Event}
 use Rattle.events.specs.Events.{firstWord}
-use Rattle.events.specs.Front.{nextAt, eventsOf}
+use Rattle.events.specs.Inner.{nextAt}
+use Rattle.events.specs.Front.{eventsOf}
 use Rattle.events.specs.FrontLaws.{next-moves}
 use Rattle.events.specs.Contents.{keyIn, wordAt, numbersIn}
 use Rattle.mdp.specs.Model.{Model}
@@ -30,7 +31,8 @@ use Rattle.facts.specs.declared.Live.{Live}
 use Rattle.facts.specs.declared.Told.{Told}
 use Rattle.facts.specs.declared.Told.the-variants.{Done, Refused}
 use Rattle.facts.specs.declared.Tuple.{Tuple}
-use Rattle.facts.specs.Words.{placedBase, factsBase, indexBase, indexWords, stateWords, part, liveOf, GoodLive, Unindexed, Rowed, Lives, Living, TupleOf}
+use Rattle.facts.specs.Inner.{Unindexed, Rowed, Lives, Living, TupleOf}
+use Rattle.facts.specs.Words.{placedBase, factsBase, indexBase, indexWords, stateWords, part, liveOf, GoodLive}
 use Rattle.facts.specs.WordLaws.{live-ext, index-rows, index-holds, index-all, reindexed-live}
 use Rattle.facts.specs.PartLaws.{length-part, part-at, part-lent, same-before, paste-in, paste-before, paste-behind}
 use Rattle.model.specs.declared.Head.{Head}
@@ -41,7 +43,8 @@ use Rattle.replay_step.specs.declared.Stepped.the-variants as S
 use Rattle.replay_step.specs.Stepped.{lentDid, lentStep, StepTask, Steps}
 use Rattle.memory.specs.declared.Numbers.{Numbers}
 use Rattle.memory.specs.declared.Said.{Said}
-use Rattle.memory.specs.Memory.{memoryOf, sessionOf, Answers, withState}
+use Rattle.memory.specs.Inner.{Answers, withState}
+use Rattle.memory.specs.Memory.{memoryOf, sessionOf}
 use Rattle.memory.specs.CarriedLaws.{carried-same, carried-on}
 use Rattle.memory.specs.StoredLaws.{stored-state}
 use Rattle.memory.specs.WordLaws.{next-drops, first-is, second-is, rest-is}

@@ -19,7 +19,8 @@ use Rattle.declare.specs.Tables.{namesOf}
 use Rattle.facts.specs.declared.Tuple.{Tuple}
 use Rattle.model.specs.declared.Head.{Head}
 use Rattle.model.specs.Layout.{actionWords, variantsOf, actionAt, modelOf}
-use Rattle.model_entry.specs.Building.{variantsBefore, FewVariants}
+use Rattle.model_entry.specs.Inner.{FewVariants}
+use Rattle.model_entry.specs.Building.{variantsBefore}
 use Rattle.model_entry.specs.NameLaws.{before-few, variant-names}
 use Rattle.desk_lines.specs.declared.Found.the-variants.{At, Refused}
 use Rattle.desk_lines.specs.Lines.{Agreed}

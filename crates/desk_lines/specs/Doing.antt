@@ -20,15 +20,18 @@ use Rattle.declare.specs.declared.Counts.{Counts}
 use Rattle.declare.specs.Tables.{namesOf}
 use Rattle.facts.specs.declared.Live.{Live}
 use Rattle.facts.specs.declared.Tuple.{Tuple}
-use Rattle.facts.specs.Words.{factsBase, part, liveOf, GoodLive, FactIndex, TupleOf}
+use Rattle.facts.specs.Inner.{FactIndex, TupleOf}
+use Rattle.facts.specs.Words.{factsBase, part, liveOf, GoodLive}
 use Rattle.model.specs.declared.Head.{Head}
-use Rattle.model.specs.Layout.{actionWords, variantsOf, modelOf, Laid}
-use Rattle.model_entry.specs.Building.{variantsBefore, FewVariants}
+use Rattle.model.specs.Inner.{Laid}
+use Rattle.model.specs.Layout.{actionWords, variantsOf, modelOf}
+use Rattle.model_entry.specs.Inner.{FewVariants}
+use Rattle.model_entry.specs.Building.{variantsBefore}
 use Rattle.replay_step.specs.declared.Stepped.{Stepped}
 use Rattle.replay_step.specs.Stepped.{lentDid, Steps}
 use Rattle.memory.specs.declared.Numbers.{Numbers}
 use Rattle.memory.specs.declared.Said.{Said}
-use Rattle.memory.specs.Memory.{withState}
+use Rattle.memory.specs.Inner.{withState}
 use Rattle.desk_lines.specs.declared.Found.{Found}
 use Rattle.desk_lines.specs.declared.Found.the-variants.{At, Refused}
 use Rattle.desk_lines.specs.Lines.{Agreed}

@@ -14,14 +14,16 @@ use Rattle.events.specs.Events.{firstWord}
 use Rattle.session.specs.Replies.{done, wordsOf}
 use Rattle.declare.specs.declared.Counts.{Counts}
 use Rattle.declare.specs.Tables.{GoodNames}
-use Rattle.facts.specs.Words.{factsBase, indexBase, indexWords, mostBytes, part, GoodLive, FactIndex}
+use Rattle.facts.specs.Inner.{mostBytes, FactIndex}
+use Rattle.facts.specs.Words.{factsBase, indexBase, indexWords, part, GoodLive}
 use Rattle.model.specs.declared.Head.{Head}
-use Rattle.model.specs.Layout.{Laid}
+use Rattle.model.specs.Inner.{Laid}
 use Rattle.model_entry.specs.Building.{variantsBefore}
 use Rattle.best_move.specs.Chosen.{BestTask}
 use Rattle.memory.specs.declared.Numbers.{Numbers}
 use Rattle.memory.specs.declared.Said.{Said}
-use Rattle.memory.specs.Memory.{memoryOf, sessionOf, Ready, Answers, Shown, workWords}
+use Rattle.memory.specs.Inner.{Ready, Answers, Shown}
+use Rattle.memory.specs.Memory.{memoryOf, sessionOf, workWords}
 
 -- ===== What they require =====
 

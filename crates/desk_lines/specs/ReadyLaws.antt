@@ -24,7 +24,8 @@ use Rattle.facts.specs.WordLaws.{index-all}
 use Rattle.model.specs.Layout.{actionAt, modelOf}
 use Rattle.model_entry.specs.NameLaws.{variants-before}
 use Rattle.memory.specs.declared.Numbers.{Numbers}
-use Rattle.memory.specs.Memory.{Memory, sessionOf, Ready, workWords}
+use Rattle.memory.specs.Inner.{Ready}
+use Rattle.memory.specs.Memory.{Memory, sessionOf, workWords}
 use Rattle.memory.specs.WordLaws.{line-begins, line-ends}
 use Rattle.memory.specs.RunLaws.{in-run, unrefused, placed-objects, run-holding, run-within, run-laid, placed-state}
 use Rattle.desk_lines.specs.Lines.{MoveTask, CountTask, Agreed, DidTask}

@@ -58,6 +58,7 @@ pub mod DiagramLaws
 pub mod Canonicity
 pub mod Validity
 pub mod RowLists
+pub mod Inner
 pub mod WordLaws
 pub mod ListingLaws
 pub mod RowLaws

@@ -14,7 +14,7 @@ use Rattle.diagram.specs.Diagram.{Diagram, leaf, branch, same}
 use Rattle.diagram.specs.DiagramLaws.{same-eq, same-refl}
 use Rattle.diagram.specs.Rows.{rows}
 use Rattle.diagram.specs.Words.{labelAt, highAt, lowAt}
-use Rattle.diagram.specs.RowLists.{Encoded}
+use Rattle.diagram.specs.Inner.{Encoded}
 use Rattle.diagram.specs.Listing.{index, encode, listing, treeAt}
 
 -- the laws of `treeAt`: nothing else unfolds it

@@ -15,7 +15,8 @@ use Rattle.diagram.specs.Rows.{onto, rows}
 use Rattle.diagram.specs.Words.{labelAt, highAt, lowAt, rowCount, equalRows, upTo, finish}
 use Rattle.diagram.specs.Listing.{index, encode, listing, diagramOf, Fine, Good}
 use Rattle.diagram.specs.Validity.{ValidRow, a-leaf, a-branch, Valid}
-use Rattle.diagram.specs.RowLists.{isPart, rowTree, Encoded, Written}
+use Rattle.diagram.specs.Inner.{isPart, Encoded, Written}
+use Rattle.diagram.specs.RowLists.{rowTree}
 use Rattle.diagram.specs.WordLaws.{below-upTo, differ-rows}
 use Rattle.diagram.specs.ListingLaws.{mem-getD, encode-at, length-encode}
 use Rattle.diagram.specs.RowLaws.{

@@ -7,7 +7,7 @@ use Rattle.diagram.specs.Diagram.{Diagram}
 use Rattle.diagram.specs.Rows.{rows}
 use Rattle.diagram.specs.Words.{isListing}
 use Rattle.diagram.specs.Listing.{listing, diagramOf, Good}
-use Rattle.diagram.specs.RowLists.{Written}
+use Rattle.diagram.specs.Inner.{Written}
 use Rattle.diagram.specs.Canonicity.{Alike}
 use Rattle.diagram.specs.ListingValid.{valid-is-listing, listing-is-valid}
 use Rattle.diagram.specs.DiagramOfListing.{listing-diagram, good-diagram, one-listing}

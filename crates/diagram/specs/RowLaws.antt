@@ -12,7 +12,8 @@ use Rattle.basics.specs.Prefix.{Prefix, prefix-refl, prefix-snoc, prefix-append
 use Rattle.diagram.specs.Diagram.{Diagram, leaf, branch, same, From, Reduced}
 use Rattle.diagram.specs.Rows.{onto, rows}
 use Rattle.diagram.specs.Listing.{index}
-use Rattle.diagram.specs.RowLists.{rowTree, isPart, size, Earlier, Kept}
+use Rattle.diagram.specs.Inner.{isPart, size, Earlier, Kept}
+use Rattle.diagram.specs.RowLists.{rowTree}
 use Rattle.diagram.specs.DiagramLaws.{same-eq, same-refl, diagram-test, from-weaken, onto-old, onto-leaf, onto-branch}
 use Rattle.diagram.specs.ListingLaws.{getD-index, index-less, index-append, mem-getD}
 

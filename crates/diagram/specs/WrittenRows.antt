@@ -15,7 +15,8 @@ use Rattle.diagram.specs.Rows.{rows}
 use Rattle.diagram.specs.Words.{labelAt, highAt, lowAt, upTo}
 use Rattle.diagram.specs.WordLaws.{map-snoc}
 use Rattle.diagram.specs.Listing.{index, encode, listing}
-use Rattle.diagram.specs.RowLists.{Earlier, Kept, Encoded, Written, SameRows, rowTree}
+use Rattle.diagram.specs.Inner.{Earlier, Kept, Encoded, Written, SameRows}
+use Rattle.diagram.specs.RowLists.{rowTree}
 use Rattle.diagram.specs.ListingLaws.{getD-index, index-less, index-append}
 use Rattle.diagram.specs.RowLaws.{kept-none, kept-leaf, kept-branch, kept-index}
 use Rattle.diagram.specs.Shown.{Shown, words-are}

@@ -36,10 +36,11 @@ use Rattle.steps.specs.GivenLaws.{then-then, then-same}
 use Rattle.planner.specs.Run.{heldIn}
 use Rattle.model.specs.declared.Head.{Head as ModelHead}
 use Rattle.model.specs.Layout.{modelOf}
-use Rattle.model_entry.specs.Building.{withActions}
+use Rattle.model_entry.specs.Inner.{withActions}
 use Rattle.model_entry.specs.Adding.{RowsRoom, TruthRoom, TruthAdded}
 use Rattle.memory.specs.declared.Numbers.{Numbers}
-use Rattle.memory.specs.Memory.{Memory, memoryOf, sessionOf, Ready}
+use Rattle.memory.specs.Inner.{Ready}
+use Rattle.memory.specs.Memory.{Memory, memoryOf, sessionOf}
 use Rattle.drawing.specs.Drawing.{drawn, Draws}
 use Rattle.diagram_lines.specs.Lines.{roomed, lowered, truthNumber, truthOf, TruthOpens, BecomesReady, BecomesSays}
 use Rattle.diagram_lines.proofs.RoomLaws.{roomed-ok, Drew, draws-refused, draws-done, drew-diagram, drew-canonical, drew-some, drew-room}

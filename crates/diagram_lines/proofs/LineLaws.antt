@@ -23,11 +23,12 @@ use Rattle.session.specs.Place.{ruleOf}
 use Rattle.session.specs.Replies.{quietly, done, wordsOf}
 use Rattle.declare.specs.declared.Counts.{Counts}
 use Rattle.declare.specs.Tables.{GoodVocabulary}
-use Rattle.facts.specs.Words.{FactIndex}
+use Rattle.facts.specs.Inner.{FactIndex}
 use Rattle.model.specs.declared.Head.{Head}
 use Rattle.model_entry.specs.Building.{Building}
 use Rattle.memory.specs.declared.Numbers.{Numbers}
-use Rattle.memory.specs.Memory.{Memory, memoryOf, sessionOf, LineOf, Stored, Ready, Carried, Answers}
+use Rattle.memory.specs.Inner.{LineOf, Ready, Carried, Answers}
+use Rattle.memory.specs.Memory.{Memory, memoryOf, sessionOf, Stored}
 use Rattle.memory.specs.QuietLaws.{quiet-refused, quiet-done, no-run}
 
 -- ===== What is lent =====

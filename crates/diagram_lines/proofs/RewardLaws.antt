@@ -37,10 +37,11 @@ use Rattle.steps.specs.GivenLaws.{then-then}
 use Rattle.planner.specs.Run.{heldIn}
 use Rattle.model.specs.declared.Head.{Head}
 use Rattle.model.specs.Layout.{modelOf}
-use Rattle.model_entry.specs.Building.{rewarded}
+use Rattle.model_entry.specs.Inner.{rewarded}
 use Rattle.model_entry.specs.Adding.{RowsRoom, RewardAdded}
 use Rattle.memory.specs.declared.Numbers.{Numbers}
-use Rattle.memory.specs.Memory.{Memory, memoryOf, sessionOf, Ready}
+use Rattle.memory.specs.Inner.{Ready}
+use Rattle.memory.specs.Memory.{Memory, memoryOf, sessionOf}
 use Rattle.drawing.specs.Drawing.{drawnClosed, DiagramAt, Drawable, Draws}
 use Rattle.diagram_lines.specs.Lines.{roomed, roomedAs, Lent, RewardReady, RewardSays}
 use Rattle.diagram_lines.specs.ReadyLaws.{no-reward}

@@ -20,10 +20,12 @@ use Rattle.events.specs.declared.Event.{Event}
 use Rattle.events.specs.declared.Next.{Next}
 use Rattle.events.specs.Events.{firstWord, nameEvent, diagramEvents}
 use Rattle.events.specs.Contents.{keyIn, wordAt}
-use Rattle.events.specs.Front.{nextAt, eventsOf}
+use Rattle.events.specs.Inner.{nextAt}
+use Rattle.events.specs.Front.{eventsOf}
 use Rattle.events.specs.FrontLaws.{next-moves}
 use Rattle.events.specs.LineEvents.{line-events}
-use Rattle.names.specs.Keys.{keysAt, placeOf, isAmong, putKey}
+use Rattle.names.specs.Inner.{putKey}
+use Rattle.names.specs.Keys.{keysAt, placeOf, isAmong}
 use Rattle.names.specs.Layout.{constantsAt, declaredAt, actionsAt, parametersAt, variantsAt}
 use Rattle.names.specs.KeyLaws.{length-keys, among-at, among-none, keys-same, length-put, put-before, keys-more}
 use Rattle.reading.specs.declared.Binding.the-variants.{None}
@@ -47,10 +49,12 @@ use Rattle.steps.specs.GivenLaws.{then-then}
 use Rattle.planner.specs.Run.{heldIn}
 use Rattle.model.specs.declared.Head.{Head}
 use Rattle.model.specs.Layout.{modelOf}
-use Rattle.model_entry.specs.Building.{withActions, newVariant}
+use Rattle.model_entry.specs.Inner.{withActions}
+use Rattle.model_entry.specs.Building.{newVariant}
 use Rattle.model_entry.specs.Adding.{RowsRoom, VariantRoom, VariantAdded}
 use Rattle.memory.specs.declared.Numbers.{Numbers}
-use Rattle.memory.specs.Memory.{Memory, memoryOf, sessionOf, LineOf, Ready}
+use Rattle.memory.specs.Inner.{LineOf, Ready}
+use Rattle.memory.specs.Memory.{Memory, memoryOf, sessionOf}
 use Rattle.drawing.specs.Drawing.{drawn, Drawable, Draws}
 use Rattle.diagram_lines.specs.Lines.{roomed, roomedAs, Lent, actionScope, WeightAt, moreVariants, VariantNamed, VariantReady, VariantSays}
 use Rattle.diagram_lines.proofs.RoomLaws.{roomed-ok, draws-room, draws-none, Drew, draws-refused, draws-done, drew-diagram, drew-canonical, drew-room}

@@ -19,7 +19,7 @@ use Rattle.words.specs.declared.Key.{Key}
 use Rattle.text.specs.declared.Kind.{Kind}
 use Rattle.text.specs.declared.Kind.the-variants.{Reward, Variant, Becomes}
 use Rattle.events.specs.declared.Event.{Event}
-use Rattle.names.specs.Keys.{putKey}
+use Rattle.names.specs.Inner.{putKey}
 use Rattle.names.specs.Layout.{variantsAt}
 use Rattle.reading.specs.declared.Binding.{Binding}
 use Rattle.reading.specs.declared.Binding.the-variants.{Only}
@@ -38,7 +38,8 @@ use Rattle.model.specs.Layout.{listingWords, variantsOf, modelOf}
 use Rattle.model_entry.specs.Building.{Spanned}
 use Rattle.memory.specs.declared.Numbers.{Numbers}
 use Rattle.memory.specs.declared.Said.{Said}
-use Rattle.memory.specs.Memory.{memoryOf, LineOf, Ready, Answers}
+use Rattle.memory.specs.Inner.{LineOf, Ready, Answers}
+use Rattle.memory.specs.Memory.{memoryOf}
 use Rattle.drawing.specs.Drawing.{drawn, DiagramAt}
 
 -- ===== Room for one listing more =====

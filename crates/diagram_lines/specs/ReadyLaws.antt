@@ -27,7 +27,8 @@ use Rattle.model.specs.Layout.{variantsOf, actionAt, modelOf}
 use Rattle.model_entry.specs.Building.{Spanned, variantsBefore}
 use Rattle.model_entry.specs.NameLaws.{variants-are, variants-before, spanned-few, before-few}
 use Rattle.memory.specs.declared.Numbers.{Numbers}
-use Rattle.memory.specs.Memory.{Memory, memoryOf, sessionOf, Ready, workWords}
+use Rattle.memory.specs.Inner.{Ready}
+use Rattle.memory.specs.Memory.{Memory, memoryOf, sessionOf, workWords}
 use Rattle.diagram_lines.specs.Lines.{Lent, Listings, LastOf, RewardReady, VariantReady, BecomesReady}
 
 -- ===== Its place =====

@@ -27,7 +27,7 @@ ghost use Rattle.session.specs.ModelLines.{rewardRead, weightRead};
 ghost use Rattle.session.specs.Replies.{wordsOf};
 ghost use Rattle.declare.specs.Tables.{namesOf, GoodNames};
 ghost use Rattle.model.specs.Layout.{listingWords};
-ghost use Rattle.memory.specs.Memory.{LineOf};
+ghost use Rattle.memory.specs.Inner.{LineOf};
 ghost use Rattle.drawing.specs.Drawing.{drawn, Drawable, Draws};
 ghost use Rattle.diagram_lines.specs.Lines.{roomed, roomedAs, lowered, loweredAs, truthOf, BuiltIn, Lent, RewardReady, RewardSays, WeightAt, VariantNamed, VariantReady, VariantSays, actionScope, VariantOpen, TruthOpens, BecomesReady, BecomesSays};
 

@@ -21,8 +21,9 @@ use Rattle.events.specs.Front.{eventsOf}
 use Rattle.names.specs.Keys.{keysAt}
 use Rattle.reading.specs.declared.Binding.the-variants.{Any}
 use Rattle.reading.specs.Operations.{Op}
-use Rattle.reading.specs.Reading.{Names, Met, arguments, Written, reading}
-use Rattle.reading.specs.Tree.{Reading, depth, opsOf, Named, reach, GoodReading}
+use Rattle.reading.specs.Reading.{Environment, Met, arguments, Written, reading}
+use Rattle.reading.specs.Inner.{depth, Named, reach, GoodReading}
+use Rattle.reading.specs.Tree.{Reading, opsOf}
 use Rattle.reading.specs.Numbering.{rewardReading}
 use Rattle.reader.specs.declared.Scope.{Scope}
 use Rattle.reader.specs.declared.Known.{Known}
@@ -45,7 +46,7 @@ use Rattle.drawing.proofs.LabelLaws.{asked-label, each-asked, each-valu
 
 -- ===== What is drawn, by what is read =====
 
-drawn-by : (x : Ending) (σ : Names) (es : List Event) (vs : List Key) (j : Outcome Written) → reading σ es (knownTo x es vs) ≡ j
+drawn-by : (x : Ending) (σ : Environment) (es : List Event) (vs : List Key) (j : Outcome Written) → reading σ es (knownTo x es vs) ≡ j
     → drawnTo x σ es vs ≡ andThen j (λ w. builtTo x (σ .arities) (w .operations))
 unfolding builtTo drawnTo knownTo rewardReading
 drawn-by Plain σ es vs j e = ap (λ (i : Outcome Written). andThen i (λ w. built (w .operations))) e
@@ -106,7 +107,7 @@ reads-fresh g = record {
 pub reads-any : (x : Ending) (scope : Scope) → x ≡ Closed → Allows x scope → scope .binding ≡ Any
 reads-any x scope e a = subst (λ (y : Ending). Allows y scope) e a
 
-module _ (σ : Names) (es : List Event) (ks : List Key) {x : Ending} {r : Read} {vs′ os′ : List ℕ} where
+module _ (σ : Environment) (es : List Event) (ks : List Key) {x : Ending} {r : Read} {vs′ os′ : List ℕ} where
   pub reads-plain : x ≡ Plain → Reads (reading σ es (arguments ks)) r vs′ os′ → Reads (reading σ es (knownTo x es ks)) r vs′ os′
   unfolding knownTo
   reads-plain e g = subst (λ (y : Ending). Reads (reading σ es (knownTo y es ks)) r vs′ os′) (sym e) g
@@ -122,7 +123,7 @@ short-room n h line l = omega (arith, h, l, length-replicate {A = ℕ} n 0)
 module _ (ending : Ending) {line : List ℕ} {at : ℕ} {names arities : List ℕ} {scope : Scope} {vs : List ℕ} {known : ℕ} {out work : List ℕ}
     (x : Drawable line at names arities scope vs known out work) {r : Read} {vs′ os′ : List ℕ}
     (g : Reads (reading (namesOf names arities scope) (eventsOf (drop at line)) (knownTo ending (eventsOf (drop at line)) (keysAt vs 0 known))) r vs′ os′) where
-  abbrev σ : Names
+  abbrev σ : Environment
   σ = namesOf names arities scope
 
   abbrev es : List Event

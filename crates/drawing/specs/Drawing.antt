@@ -14,7 +14,7 @@ use Rattle.forms.specs.Tree as T
 use Rattle.events.specs.declared.Event.{Event}
 use Rattle.events.specs.Events.{diagramEvents}
 use Rattle.events.specs.Front.{eventsOf}
-use Rattle.reading.specs.Reading.{Names, arguments, reading}
+use Rattle.reading.specs.Reading.{Environment, arguments, reading}
 use Rattle.reading.specs.Numbering.{rewardReading}
 use Rattle.reader.specs.declared.Scope.{Scope}
 use Rattle.reader.specs.Callers.{argumentCount, Tables, Variables}
@@ -23,12 +23,12 @@ use Rattle.build.specs.Machine.{built, builtClosed, mostTests}
 use Rattle.drawing.specs.Writing.{builtAs}
 
 -- the words es, the arguments vs known before them
-unfoldable pub drawn : Names → List Event → List Key → Outcome Diagram
+unfoldable pub drawn : Environment → List Event → List Key → Outcome Diagram
 unfolding reading built
 drawn σ es vs = andThen (reading σ es (arguments vs)) (λ w. built (w .operations))
 
 -- a reward: its variables by ascending N where each is written so, its diagram closed up
-unfoldable pub drawnClosed : Names → List Event → Outcome Diagram
+unfoldable pub drawnClosed : Environment → List Event → Outcome Diagram
 unfolding rewardReading builtClosed
 drawnClosed σ es = andThen (rewardReading σ es) (λ w. builtClosed (σ .arities) (w .operations))
 

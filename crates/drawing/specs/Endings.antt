@@ -9,7 +9,7 @@ use Rattle.events.specs.declared.Event.{Event}
 use Rattle.reading.specs.declared.Binding.the-variants.{Any}
 use Rattle.reading.specs.Operations.{Op}
 use Rattle.reading.specs.Numbering.{metFirst}
-use Rattle.reading.specs.Reading.{Names, Met, arguments}
+use Rattle.reading.specs.Reading.{Environment, Met, arguments}
 use Rattle.reader.specs.declared.Scope.{Scope}
 use Rattle.build.specs.Machine.{built, builtClosed}
 use Rattle.drawing.specs.Drawing.{drawn, drawnClosed}
@@ -31,7 +31,7 @@ abbrev pub Allows : Ending → Scope → Type 0
 Allows Plain s = Unit {0}
 Allows Closed s = s .binding ≡ Any
 
-unfoldable pub drawnTo : Ending → Names → List Event → List Key → Outcome Diagram
+unfoldable pub drawnTo : Ending → Environment → List Event → List Key → Outcome Diagram
 unfolding drawn drawnClosed
 drawnTo Plain σ es vs = drawn σ es vs
 drawnTo Closed σ es vs = drawnClosed σ es

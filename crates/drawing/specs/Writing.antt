@@ -9,7 +9,7 @@ use Rattle.label.specs.Labels.{areArities, isLabel}
 use Rattle.diagram.specs.Sizes.{highestValue, resultWords, spaceWords, spaceRows, mostPairs}
 use Rattle.diagram.specs.Diagram.{Diagram}
 use Rattle.diagram.specs.Rows.{rows}
-use Rattle.diagram.specs.RowLists.{Written}
+use Rattle.diagram.specs.Inner.{Written}
 use Rattle.diagram.specs.Validity.{tree}
 use Rattle.store.specs.Space.{diagramsOf}
 use Rattle.refusal.specs.declared.Refusal.{Refusal}

@@ -11,7 +11,8 @@ use Rattle.diagram.specs.Validity.{Valid}
 use Rattle.diagram.specs.DiagramOfListing.{diagram-is}
 use Rattle.diagram.specs.ListingValid.{listing-is-valid}
 use Rattle.state.specs.State.{meaning, State, Good}
-use Rattle.state.specs.Highest.{Highest, start, highest, Bound}
+use Rattle.state.specs.Inner.{Highest}
+use Rattle.state.specs.Highest.{start, highest, Bound}
 use Rattle.state.specs.HighestLaws.{highest-is, highest-one, start-fits}
 use Rattle.elimination.specs.Tables.{countChoices, entries}
 use Rattle.elimination.specs.Elimination.{rootTable}

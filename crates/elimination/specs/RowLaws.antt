@@ -19,7 +19,7 @@ use Rattle.diagram.specs.Words.{labelAt, highAt, lowAt, rowCount}
 use Rattle.diagram.specs.Validity.{Valid, tree}
 use Rattle.diagram.specs.DiagramOfListing.{shown-rows}
 use Rattle.rename.specs.AscendingLaws.{ascending-above}
-use Rattle.state.specs.Max.{IsMax}
+use Rattle.state.specs.Inner.{IsMax}
 use Rattle.state.specs.State.{Atomic, atomOf, meaning, State, Good, holds, value, Fits}
 use Rattle.state.specs.ValueLaws.{by-low}
 use Rattle.elimination.specs.Tables.{Table, leafTable, join, unite, aggregateAll}

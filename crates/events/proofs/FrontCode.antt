@@ -17,7 +17,8 @@ use Rattle.events.specs.declared.Event.the-variants.{Name, Variable, Par
 use Rattle.events.specs.declared.Seen.{Seen}
 use Rattle.events.specs.declared.Word.{Word}
 use Rattle.events.specs.FrontLaws.{front-moves}
-use Rattle.events.specs.Front.{space, behind, spaceBit, spaces, seen, nameKey, wordAt, isIf, atomFront, numberFront, frontOf, nextAt}
+use Rattle.events.specs.Inner.{nextAt}
+use Rattle.events.specs.Front.{space, behind, spaceBit, spaces, seen, nameKey, wordAt, isIf, atomFront, numberFront, frontOf}
 
 module _ (s : List ℕ) (i : ℕ) where
   pub spaces-stop : i < length s → getD s i 0 ≡ 41 → spaces (drop i s) ≡ 0

@@ -10,7 +10,6 @@ use Rattle.words.specs.declared.Key.{Key}
 use Rattle.events.specs.declared.Event.{Event}
 use Rattle.events.specs.declared.Event.the-variants.{Name, Variable, Parameter, Minimum, Number, Equal, Holds, Step, End}
 use Rattle.events.specs.declared.Seen.{Seen}
-use Rattle.events.specs.declared.Next.{Next}
 use Rattle.events.specs.declared.Word.{Word}
 
 -- i, or the place behind it where a space stands there
@@ -66,10 +65,6 @@ frontOf s =
     (cond (eqb (getD s 0 0) 40) (cond (isIf s) (atomFront s 4) (atomFront s 0))
     (cond (eqb (getD s 0 0) 41) (seen Step (space s 1))
     (seen End 0))))))))
-
--- at a place of a line
-unfoldable pub nextAt : List ℕ → ℕ → Next
-nextAt s i = record { event = frontOf (drop i s) .event; place = i + frontOf (drop i s) .taken }
 
 abbrev pub isEnd : Event → Bool
 isEnd (Name k) = false

@@ -13,7 +13,8 @@ use Rattle.words.specs.Bytes.{isLetter, isDigit, isNameByte, run}
 use Rattle.words.specs.ByteLaws.{inside, run-le, run-pos, letter-name}
 use Rattle.events.specs.declared.Event.the-variants.{Name, End}
 use Rattle.events.specs.declared.Seen.{Seen}
-use Rattle.events.specs.Front.{space, behind, seen, wordAt, isIf, atomFront, numberFront, frontOf, nextAt, isEnd, eventsFrom, eventsOf}
+use Rattle.events.specs.Inner.{nextAt}
+use Rattle.events.specs.Front.{space, behind, seen, wordAt, isIf, atomFront, numberFront, frontOf, isEnd, eventsFrom, eventsOf}
 
 -- an event stays within n bytes, and takes one at least unless it is the end
 pub record Moves (n : ℕ) (x : Seen) : Type 0 where

@@ -23,6 +23,7 @@
 
 pub mod Events
 pub mod Front
+pub mod Inner
 pub mod FrontLaws
 pub mod EventLaws
 pub mod LineEvents

@@ -6,7 +6,8 @@ ghost use Prim.Native.Nat.{_+_, _≤_, _<_};
 ghost use lib.ListN.{length};
 ghost use Rattle.events.specs.Events.{firstWord};
 ghost use Rattle.events.specs.Contents.{keyIn, numberIn};
-ghost use Rattle.events.specs.Front.{isEnd, space, behind, spaceBit, spaces, wordAt, isIf, atomFront, numberFront, frontOf, nextAt};
+ghost use Rattle.events.specs.Inner.{nextAt};
+ghost use Rattle.events.specs.Front.{isEnd, space, behind, spaceBit, spaces, wordAt, isIf, atomFront, numberFront, frontOf};
 
 // What stands next: a name, ?name, !name, %name or number; an atom's begin, = or a name with its count of terms; the closing
 // bracket of an if form; the line's end.

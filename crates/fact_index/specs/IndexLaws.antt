@@ -12,7 +12,8 @@ use Rattle.basics.specs.Tests.{Cmp, below, equal, above, cmp}
 use Rattle.state.specs.Lent.{factWords, predicateAt}
 use Rattle.table.specs.Chains.{prev}
 use Rattle.table.specs.ChainLaws.{test, prev-zero, prev-same, prev-other, prev-le, prev-hits, prev-ext}
-use Rattle.fact_index.specs.Index.{buckets, placeCount, objectAt, hashEnd, hashGap, hashStart, hashStep, hashOf, bucketFor, bucketAt, Indexed, Clean}
+use Rattle.fact_index.specs.Inner.{placeCount, objectAt, hashEnd, hashGap, hashStart, hashStep, hashOf, bucketFor, bucketAt, Indexed, Clean}
+use Rattle.fact_index.specs.Index.{buckets}
 
 -- ===== The bucket of a row =====
 

@@ -10,7 +10,8 @@ use Rattle.basics.specs.Members.{clash}
 use Rattle.state.specs.Lent.{factWords}
 use Rattle.table.specs.Chains.{prev}
 use Rattle.table.specs.ChainLaws.{prev-le, prev-gap, prev-hits}
-use Rattle.fact_index.specs.Index.{buckets, bucketAt, indexedCount, Asks, Sought}
+use Rattle.fact_index.specs.Inner.{bucketAt, indexedCount, Asks, Sought}
+use Rattle.fact_index.specs.Index.{buckets}
 
 -- the walk of a bucket's chain: rows at or above `at` are passed
 pub record Chain (facts index : List ℕ) (q : ℕ → Bool) (b at : ℕ) : Type 0 where

@@ -4,7 +4,8 @@ ghost use Prim.Native.Nat.{_+_, _*_, _<_, _≤_};
 ghost use lib.ListN.{length};
 ghost use Rattle.label.specs.Limits.{mostPlaces};
 ghost use Rattle.state.specs.Lent.{factWords};
-ghost use Rattle.fact_index.specs.Index.{buckets, placeCount, hashEnd, hashGap, hashStart, hashStep, bucketFor, bucketAt, indexedCount, Indexed, Clean};
+ghost use Rattle.fact_index.specs.Inner.{placeCount, hashEnd, hashGap, hashStart, hashStep, bucketFor, bucketAt, indexedCount, Indexed, Clean};
+ghost use Rattle.fact_index.specs.Index.{buckets};
 use label::Label;
 use state::FACT_WORDS;
 

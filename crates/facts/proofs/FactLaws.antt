@@ -11,7 +11,8 @@ use lib.Dec.{eqb}
 use Rattle.basics.specs.Tests.{Flag, isTrue, isFalse, flag, and-left}
 use Rattle.state.specs.Lent.{factCount, allBelow, factWords, mostFacts, factRow}
 use Rattle.state.specs.LentLaws.{some-made, some-none}
-use Rattle.fact_index.specs.Index.{buckets, bucketAt, indexedCount, Indexed, Asks}
+use Rattle.fact_index.specs.Inner.{bucketAt, indexedCount, Indexed, Asks}
+use Rattle.fact_index.specs.Index.{buckets}
 use Rattle.fact_index.specs.IndexLaws.{bucket-same, indexed-same, index-add}
 use Rattle.fact_index.specs.SearchLaws.{Chain, chain-head, chain-start, chain-row, chain-link, chain-less, chain-hit, chain-on, chain-none}
 use Rattle.session.specs.Session.{refuseIf}
@@ -31,20 +32,8 @@ use Rattle.label.specs.Limits.{constantCount, predicateCount, mostPlaces}
 use Rattle.label.specs.Labels.{areArities}
 use Rattle.refusal.specs.declared.Refusal.the-variants.{Name, Arity, Range, Space}
 use Rattle.refusal.specs.Outcome.{ok}
-use Rattle.facts.specs.Words.{
-  part,
-  liveOf,
-  GoodLive,
-  FactIndex,
-  Living,
-  TupleOf,
-  Telling,
-  placedBase,
-  factsBase,
-  indexBase,
-  indexWords,
-  stateWords,
-}
+use Rattle.facts.specs.Inner.{FactIndex, Living, TupleOf, Telling}
+use Rattle.facts.specs.Words.{part, liveOf, GoodLive, placedBase, factsBase, indexBase, indexWords, stateWords}
 use Rattle.facts.specs.Noting.{Findable, noted, PutIn}
 use Rattle.facts.specs.PartLaws.{length-part, part-at, part-lent, set-behind, paste-in, paste-before, paste-behind}
 use Rattle.facts.specs.WordLaws.{live-ext, fact-count, index-rows, index-holds, index-stays}

@@ -7,10 +7,12 @@ use lib.ListN.{length, getD, set, take, drop, length-set}
 use lib.Seq.{getD-take, getD-set-same, getD-set-other, take-set-le}
 use Rattle.basics.specs.Tests.{Cmp, below, equal, above, cmp}
 use Rattle.state.specs.Lent.{factWords, mostFacts}
-use Rattle.fact_index.specs.Index.{buckets, bucketAt, Indexed, Clean}
+use Rattle.fact_index.specs.Inner.{bucketAt, Indexed, Clean}
+use Rattle.fact_index.specs.Index.{buckets}
 use Rattle.fact_index.specs.IndexLaws.{clean-indexed, index-add, Clearing, clear-start, clear-on, all-cleared}
 use Rattle.facts.specs.declared.Live.{Live}
-use Rattle.facts.specs.Words.{part, factsBase, indexBase, indexWords, stateWords, FactIndex, Reindexed, Unindexed, Rowed, Remade, Unplaced, Emptied}
+use Rattle.facts.specs.Inner.{FactIndex, Reindexed, Unindexed, Rowed, Remade, Unplaced, Emptied}
+use Rattle.facts.specs.Words.{part, factsBase, indexBase, indexWords, stateWords}
 use Rattle.facts.specs.PartLaws.{length-part, part-at, part-lent, same-before, set-in, set-behind}
 use Rattle.facts.specs.WordLaws.{index-none, index-rows, index-clean, index-holds}
 

@@ -15,27 +15,15 @@ use Rattle.names.specs.Layout.{constantsAt}
 use Rattle.names.specs.KeyLaws.{among-at, among-none}
 use Rattle.refusal.specs.Outcome.{ok}
 use Rattle.state.specs.Lent.{factWords, mostObjects}
-use Rattle.fact_index.specs.Index.{Clean}
+use Rattle.fact_index.specs.Inner.{Clean}
 use Rattle.fact_index.specs.IndexLaws.{clean-indexed}
 use Rattle.session.specs.Facts.{objectsLine, isLine, cleared, placed}
 use Rattle.declare.specs.declared.Counts.{Counts}
 use Rattle.declare.specs.Tables.{namesOf, GoodNames}
 use Rattle.facts.specs.declared.Live.{Live}
 use Rattle.facts.specs.declared.Told.the-variants.{Done, Refused}
-use Rattle.facts.specs.Words.{
-  part,
-  liveOf,
-  GoodLive,
-  Living,
-  Placing,
-  Unindexed,
-  Unplaced,
-  placedBase,
-  factsBase,
-  indexBase,
-  indexWords,
-  stateWords,
-}
+use Rattle.facts.specs.Inner.{Living, Placing, Unindexed, Unplaced}
+use Rattle.facts.specs.Words.{part, liveOf, GoodLive, placedBase, factsBase, indexBase, indexWords, stateWords}
 use Rattle.facts.specs.PartLaws.{part-at, same-behind, set-in, set-before}
 use Rattle.facts.specs.WordLaws.{live-ext, cleared-live, index-rows, index-stays}
 

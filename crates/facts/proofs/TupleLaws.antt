@@ -13,11 +13,12 @@ use Rattle.label.specs.Limits.{mostPlaces}
 use Rattle.state.specs.Lent.{factWords, allBelow}
 use Rattle.events.specs.declared.Event.{Event}
 use Rattle.events.specs.declared.Next.{Next}
-use Rattle.events.specs.Front.{isEnd, nextAt, eventsOf}
+use Rattle.events.specs.Inner.{nextAt}
+use Rattle.events.specs.Front.{isEnd, eventsOf}
 use Rattle.events.specs.FrontLaws.{next-end, next-more, next-moves, events-short}
 use Rattle.events.specs.Contents.{numberIn, numbersIn}
 use Rattle.facts.specs.declared.Tuple.{Tuple}
-use Rattle.facts.specs.Words.{EmptyRow, TupleOf, tupleMore, kept, mostBytes}
+use Rattle.facts.specs.Inner.{EmptyRow, TupleOf, tupleMore, kept, mostBytes}
 
 pub still-on : (b : Bool) (v n : ℕ) → b ≡ true → ltb v n ≡ (b && ltb v n)
 still-on b v n e = rw e

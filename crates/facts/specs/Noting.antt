@@ -3,7 +3,8 @@ use mathlib.Core.Path.{_≡_}
 use mathlib.Core.List.{List}
 use Prim.Native.Nat.{ℕ, _+_, _*_, _<_}
 use Rattle.state.specs.Lent.{factWords, factCount}
-use Rattle.fact_index.specs.Index.{buckets, bucketAt, Indexed}
+use Rattle.fact_index.specs.Inner.{bucketAt, Indexed}
+use Rattle.fact_index.specs.Index.{buckets}
 use Rattle.session.specs.Facts.{withFact}
 use Rattle.facts.specs.declared.Live.{Live}
 use Rattle.facts.specs.Words.{factsBase, indexBase, indexWords, part, liveOf, GoodLive}

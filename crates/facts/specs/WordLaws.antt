@@ -8,26 +8,14 @@ use lib.ListN.{length, getD, replicate, length-replicate, getD-replicate}
 use lib.Seq.{ext-getD}
 use Rattle.label.specs.Limits.{constantCount}
 use Rattle.state.specs.Lent.{factWords, factCount}
-use Rattle.fact_index.specs.Index.{buckets, indexedCount, Indexed, Clean}
+use Rattle.fact_index.specs.Inner.{indexedCount, Indexed, Clean}
+use Rattle.fact_index.specs.Index.{buckets}
 use Rattle.fact_index.specs.IndexLaws.{clean-indexed, indexed-clean}
 use Rattle.session.specs.Session.{Live as SessionLive}
 use Rattle.session.specs.Facts.{cleared}
 use Rattle.facts.specs.declared.Live.{Live}
-use Rattle.facts.specs.Words.{
-  part,
-  placedBase,
-  factsBase,
-  indexBase,
-  indexWords,
-  stateWords,
-  liveOf,
-  GoodLive,
-  indexedRows,
-  FactIndex,
-  Reindexed,
-  Cleared,
-  EmptyRow,
-}
+use Rattle.facts.specs.Inner.{indexedRows, FactIndex, Reindexed, Cleared, EmptyRow}
+use Rattle.facts.specs.Words.{part, placedBase, factsBase, indexBase, indexWords, stateWords, liveOf, GoodLive}
 use Rattle.facts.specs.PartLaws.{length-part, part-at, same-before}
 
 -- a row of zeros has no object

@@ -10,7 +10,8 @@ use lib.ListN.{length, getD, length-append}
 use lib.Seq.{getD-append-seam, drop-append-seam}
 use borrow.Author.Tests.{eq-eqb, ne-eqb, le-leb}
 use Rattle.words.specs.Bytes.{isDigit, isNameByte, isLetter}
-use Rattle.words.specs.Words.{IsName, IsNumber, nameForm}
+use Rattle.words.specs.Inner.{nameForm}
+use Rattle.words.specs.Words.{IsName, IsNumber}
 use Rattle.words.specs.WordLaws.{name-complete, number-complete, name-first, number-first}
 use Rattle.words.specs.declared.Took.{Took}
 use Rattle.words.specs.declared.Took.the-variants.{Bytes}

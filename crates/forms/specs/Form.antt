@@ -5,7 +5,8 @@ use mathlib.Core.List.{List}
 use mathlib.Core.Bool.{Bool, _||_, cond}
 use lib.Dec.{leb, eqb}
 use lib.ListN.{getD, drop, length}
-use Rattle.words.specs.Words.{nameForm, numberForm}
+use Rattle.words.specs.Inner.{nameForm}
+use Rattle.words.specs.Words.{numberForm}
 use Rattle.words.specs.declared.Took.{Took}
 use Rattle.words.specs.declared.Took.the-variants.{Bytes, Refused}
 use Rattle.forms.specs.declared.Sort.{Sort}

@@ -7,7 +7,8 @@ use native.Mathlib.Omega.{arith}
 use lib.Dec.{leb, eqb}
 use lib.ListN.{length, getD, drop, length-drop}
 use borrow.Author.Tests.{eqb-true}
-use Rattle.words.specs.Words.{nameForm, numberForm}
+use Rattle.words.specs.Inner.{nameForm}
+use Rattle.words.specs.Words.{numberForm}
 use Rattle.words.specs.ByteLaws.{inside}
 use Rattle.words.specs.WordLaws.{refused, bytes-eq, name-within, number-within}
 use Rattle.words.specs.declared.Took.{Took}

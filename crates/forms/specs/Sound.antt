@@ -9,7 +9,8 @@ use lib.Dec.{leb, eqb}
 use lib.ListN.{length, getD, take, drop}
 use lib.Seq.{take-suc, take-add}
 use borrow.Author.Tests.{eqb-true, leb-true}
-use Rattle.words.specs.Words.{IsName, IsNumber, nameForm, numberForm}
+use Rattle.words.specs.Inner.{nameForm}
+use Rattle.words.specs.Words.{IsName, IsNumber, numberForm}
 use Rattle.words.specs.ByteLaws.{inside}
 use Rattle.words.specs.WordLaws.{refused, bytes-eq, name-sound, number-sound}
 use Rattle.words.specs.declared.Took.{Took}

@@ -8,7 +8,8 @@ use lib.ListN.{length, getD, take, drop}
 use lib.Seq.{take-at, drop-at}
 use borrow.Author.Tests.{eqb-false}
 use Rattle.words.specs.Bytes.{isNameByte}
-use Rattle.words.specs.Words.{IsName, IsNumber, nameForm}
+use Rattle.words.specs.Inner.{nameForm}
+use Rattle.words.specs.Words.{IsName, IsNumber}
 use Rattle.words.specs.WordLaws.{bytes-eq, name-complete, name-first}
 use Rattle.words.specs.declared.Took.{Took}
 use Rattle.words.specs.declared.Took.the-variants.{Bytes}

@@ -3,7 +3,7 @@ use words::Took;
 ghost use mathlib.Core.Path.{_≡_};
 ghost use Prim.Native.Nat.{ℕ, _+_, _≤_, _<_};
 ghost use lib.ListN.{length};
-ghost use Rattle.words.specs.Words.{nameForm};
+ghost use Rattle.words.specs.Inner.{nameForm};
 ghost use Rattle.forms.specs.Form.{
   _▹_,
   byte,

@@ -15,7 +15,8 @@ use Rattle.basics.specs.Members.{clash}
 use Rattle.label.specs.Limits.{firstParameter, parameterCount, firstVariable, firstMinimum, termEnd}
 use Rattle.label.specs.Terms.{isTerm}
 use Rattle.label.specs.LabelLaws.{low-term}
-use Rattle.label.specs.Renamings.{renamed, freeing, mapOf}
+use Rattle.label.specs.Inner.{mapOf}
+use Rattle.label.specs.Renamings.{renamed, freeing}
 use Rattle.diagram.specs.Sizes.{resultWords, spaceWords}
 use Rattle.diagram.specs.Diagram.{relabel}
 use Rattle.diagram.specs.Rows.{rows}
@@ -31,8 +32,8 @@ use Rattle.listing.specs.Used.{Used}
 use Rattle.rename.specs.Calls.{Renamable}
 use Rattle.rename.specs.Maps.{tabled}
 use Rattle.rename.specs.MapLaws.{free-terms}
-use Rattle.rename.specs.Relabelling.{relabelled}
-use Rattle.rename.specs.Freeing.{freed, Freeable}
+use Rattle.rename.specs.Inner.{relabelled, Freeable}
+use Rattle.rename.specs.Freeing.{freed}
 use Rattle.rename.specs.FreeingLaws.{freed-rows}
 use Rattle.rename.specs.VariableLaws.{occurs-term}
 use Rattle.rename.specs.RenamedWords.{freed-words}

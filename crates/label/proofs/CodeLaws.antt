@@ -13,8 +13,9 @@ use Rattle.label.specs.Limits.{constantCount, firstParameter, parameterC
 use Rattle.label.specs.Limits.{predicateCount, equalityArity, mostPlaces}
 use Rattle.label.specs.Terms.{isConstant, isParameter, isVariable, isMinimum, isTerm}
 use Rattle.label.specs.Labels.{areArities, allAtMost, placesOf, placeIn, atomFrom, packed, predicateOf, placeAt, unpacked, placeFits, inOrder, isAtom, isLabel}
-use Rattle.label.specs.Labels.{isLabelUnder, equalAtom, equates, testOf}
-use Rattle.label.specs.Renamings.{mapOf, placed, mapped, moved, renamed}
+use Rattle.label.specs.Inner.{isLabelUnder, mapOf}
+use Rattle.label.specs.Labels.{equalAtom, equates, testOf}
+use Rattle.label.specs.Renamings.{placed, mapped, moved, renamed}
 use Rattle.label.specs.Callers.{endsAt, Places, Packable, TermMap, Mappable, Movable, Replaced}
 use Rattle.label.specs.LabelLaws.{used-term, unused-zero, each-end, ends-zero, zero-ends, places-below, below-places, place-of, predicate-of, place-fits, fits-list}
 use Rattle.label.specs.LabelLaws.{label-fits, label-ends, label-places}

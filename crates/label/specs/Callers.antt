@@ -7,7 +7,8 @@ use lib.ListN.{length, getD}
 use lib.Dec.{eqb}
 use Rattle.label.specs.Limits.{predicateCount, mostPlaces, termBits, termBase, termEnd}
 use Rattle.label.specs.Labels.{isLabel, predicateOf, unpacked}
-use Rattle.label.specs.Renamings.{mapOf, mapped}
+use Rattle.label.specs.Inner.{mapOf}
+use Rattle.label.specs.Renamings.{mapped}
 use Rattle.label.specs.declared.Atom.{Atom}
 
 -- the places from place n on are all 0: as one test of the packed number

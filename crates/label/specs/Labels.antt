@@ -84,10 +84,6 @@ isAtom ar a = ltb (a .predicate) predicateCount && (placesFit (getD ar (a .predi
 unfoldable pub isLabel : List ℕ → ℕ → Bool
 isLabel ar l = isAtom ar (unpacked l)
 
--- ar is an arity list, and l a label under it
-unfoldable pub isLabelUnder : List ℕ → ℕ → Bool
-isLabelUnder ar l = areArities ar && isLabel ar l
-
 -- the terms of an atom under the arity list ar: its used places
 unfoldable pub termsOf : List ℕ → Atom → List ℕ
 termsOf ar a = take (getD ar (a .predicate) 0) (placesOf a)

@@ -61,6 +61,7 @@ pub mod Terms
 pub mod Labels
 pub mod Order
 pub mod Renamings
+pub mod Inner
 pub mod Callers
 pub mod LabelLaws
 pub mod ArityLaws

@@ -1,13 +1,12 @@
 -- The order of labels as the thesis writes it (document 02, L3; section 3.2.5 of source document 001).
-use mathlib.Core.Bool.{Bool, true, false, _||_, cond}
+use mathlib.Core.Bool.{Bool, true, false, cond}
 use mathlib.Core.List.{List, [], _∷_}
 use mathlib.Core.Path.{_≡_}
 use mathlib.Core.Logic.{_⊎_}
 use Prim.Native.Nat.{ℕ}
 use lib.Dec.{eqb, ltb}
-use Rattle.label.specs.Limits.{leafMark}
 use Rattle.label.specs.Terms.{kindOf}
-use Rattle.label.specs.Labels.{unpacked, termsOf, isLabel}
+use Rattle.label.specs.Labels.{unpacked, termsOf}
 use Rattle.label.specs.declared.Atom.{Atom}
 use Rattle.label.specs.declared.Kind.{Kind}
 use Rattle.label.specs.declared.Kind.the-variants.{Constant, Parameter, Variable, Minimum, None}
@@ -37,19 +36,6 @@ atomBefore ar a b = cond (eqb (a .predicate) (b .predicate)) (placesBefore (term
 -- the label l comes before the label k
 abbrev pub labelBefore : List ℕ → ℕ → ℕ → Bool
 labelBefore ar l k = atomBefore ar (unpacked l) (unpacked k)
-
--- a row's first word is a leaf's mark or a label
-abbrev pub isFirstWord : List ℕ → ℕ → Bool
-isFirstWord ar w = eqb w leafMark || isLabel ar w
-
--- first words in that order, a leaf after every label
-abbrev pub wordBefore : List ℕ → ℕ → ℕ → Bool
-wordBefore ar w v = cond (eqb w leafMark) false (cond (eqb v leafMark) true (labelBefore ar w v))
-
--- what the comparison of two words answers: for first words of rows under one arity list their order, for any two words that of the numbers
-pub record Compared (w v : ℕ) (r : Bool) : Type 0 where
-  pub ordered : (ar : List ℕ) → isFirstWord ar w ≡ true → isFirstWord ar v ≡ true → r ≡ wordBefore ar w v
-  pub numbers : r ≡ ltb w v
 
 -- a strict total order on what P names
 pub record StrictTotal (P : ℕ → Type 0) (before : ℕ → ℕ → Bool) : Type 0 where

@@ -14,7 +14,8 @@ use Rattle.label.specs.Limits.{constantCount, firstParameter, parameterC
 use Rattle.label.specs.Terms.{isConstant, isParameter, isVariable, isMinimum, isTerm, kindOf}
 use Rattle.label.specs.Labels.{packed, unpacked, placeFits, placesOf, isLabel, termsOf}
 use Rattle.label.specs.LabelLaws.{place-below, unused-zero, used-term, PlacesFit, Fitting, label-fits, label-below, packed-unpacked}
-use Rattle.label.specs.Order.{termBefore, placesBefore, atomBefore, labelBefore, isFirstWord, wordBefore, Compared, StrictTotal}
+use Rattle.label.specs.Inner.{isFirstWord, wordBefore, Compared}
+use Rattle.label.specs.Order.{termBefore, placesBefore, atomBefore, labelBefore, StrictTotal}
 use Rattle.label.specs.declared.Atom.{Atom}
 use Rattle.label.specs.declared.Kind.the-variants.{Constant, Parameter, Variable, Minimum}
 

@@ -13,7 +13,8 @@ use Rattle.basics.specs.Members.{mem, clash}
 use Rattle.label.specs.Limits.{firstParameter, parameterCount, firstVariable, firstMinimum, minimumCount, termEnd, equalityArity, mostPlaces}
 use Rattle.label.specs.Terms.{isTerm}
 use Rattle.label.specs.Labels.{areArities, placesOf, placeIn, packed, predicateOf, unpacked, placeFits, inOrder, isAtom, isLabel, termsOf, equalAtom, equates, testOf, labelOf}
-use Rattle.label.specs.Renamings.{placed, mapped, moved, renamed, rank, numbering, freeing, Increasing, EachTerm, EachIn}
+use Rattle.label.specs.Inner.{Increasing}
+use Rattle.label.specs.Renamings.{placed, mapped, moved, renamed, rank, numbering, freeing, EachTerm, EachIn}
 use Rattle.label.specs.LabelLaws.{term-high, each-place, atom-same, Fitting, PlacesFit, atom-fits, fits-atom, atom-places, label-fits, label-packed, unpacked-packed, unused-zero, used-term}
 use Rattle.label.specs.ArityLaws.{arity-two}
 use Rattle.label.specs.Order.{termBefore, placesBefore, atomBefore, labelBefore}

@@ -1,12 +1,10 @@
 -- Maps of terms, and labels renamed by them (document 01, sections 'Combination' and 'Regression').
-use mathlib.Core.Bool.{true, cond}
+use mathlib.Core.Bool.{cond}
 use mathlib.Core.List.{List, [], _∷_}
-use mathlib.Core.Path.{_≡_}
 use Prim.Native.Nat.{ℕ, _+_, _-_, _<_}
 use lib.ListN.{getD}
 use lib.Dec.{ltb}
 use Rattle.label.specs.Limits.{firstParameter, firstVariable, firstMinimum, mostPlaces}
-use Rattle.label.specs.Terms.{isTerm}
 use Rattle.label.specs.Labels.{placeIn, packed, unpacked, testOf, predicateOf}
 use Rattle.label.specs.declared.Atom.{Atom}
 use Rattle.label.specs.declared.Test.{Test}
@@ -35,10 +33,6 @@ moved ar ρ l = testOf (mapped ρ (getD ar (predicateOf l) 0) (unpacked l))
 unfoldable pub renamed : List ℕ → (ℕ → ℕ) → ℕ → ℕ
 renamed ar ρ l = packed (mapped ρ (getD ar (predicateOf l) 0) (unpacked l))
 
--- a map of terms as a lent list of words
-abbrev pub mapOf : List ℕ → ℕ → ℕ
-mapOf ws t = getD ws t 0
-
 -- how many numbers of vs are below t
 abbrev pub rank : List ℕ → ℕ → ℕ
 rank [] t = 0
@@ -56,11 +50,6 @@ freeing c t =
     (cond (ltb t (firstParameter + c)) (t + (firstVariable - firstParameter))
     (cond (ltb t firstVariable) t
     (cond (ltb t firstMinimum) (t + c) t)))
-
--- ρ turns the terms that P names into terms and keeps their order
-pub record Increasing (P : ℕ → Type 0) (ρ : ℕ → ℕ) : Type 0 where
-  pub terms : (t : ℕ) → P t → isTerm (ρ t) ≡ true
-  pub order : (t u : ℕ) → P t → P u → t < u → ρ t < ρ u
 
 -- P names every term of an atom of arity n
 pub record EachTerm (P : ℕ → Type 0) (n : ℕ) (a : Atom) : Type 0 where

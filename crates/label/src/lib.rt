@@ -4,9 +4,9 @@ ghost use Prim.Native.Nat.{_+_, _*_, _<_, _≤_, min};
 ghost use lib.ListN.{length};
 ghost use Rattle.label.specs.Limits.{constantCount, parameterCount, variableCount, minimumCount, termBase, mostPlaces, predicateCount};
 ghost use Rattle.label.specs.Terms.{isTerm, kindOf, constantTerm, parameterTerm, variableTerm, minimumTerm};
-ghost use Rattle.label.specs.Labels.{areArities, packed, predicateOf, placeAt, unpacked, isLabel, isLabelUnder, equalAtom, equates, testOf};
-ghost use Rattle.label.specs.Order.{Compared};
-ghost use Rattle.label.specs.Renamings.{mapOf, placed, mapped, moved, renamed};
+ghost use Rattle.label.specs.Inner.{isLabelUnder, Compared, mapOf};
+ghost use Rattle.label.specs.Labels.{areArities, packed, predicateOf, placeAt, unpacked, isLabel, equalAtom, equates, testOf};
+ghost use Rattle.label.specs.Renamings.{placed, mapped, moved, renamed};
 ghost use Rattle.label.specs.Callers.{endsAt, Packable, Mappable, Movable, Replaced};
 
 // What a term is, by its number.

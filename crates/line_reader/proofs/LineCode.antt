@@ -4,7 +4,7 @@ use mathlib.Core.List.{List}
 use Prim.Native.Nat.{ℕ, _-_, _≤_, _<_}
 use lib.ListN.{length, getD, take, drop}
 use borrow.Author.Tests.{eq-eqb, ne-eqb, le-leb, lt-leb}
-use Rattle.words.specs.Words.{nameForm}
+use Rattle.words.specs.Inner.{nameForm}
 use Rattle.words.specs.Keys.{keyOf}
 use Rattle.words.specs.ByteLaws.{part-tail}
 use Rattle.words.specs.declared.Key.{Key}

@@ -8,6 +8,7 @@ use native.Mathlib.Numerals.{add-one}
 use lib.Dec.{leb, eqb}
 use lib.ListN.{length, getD}
 use borrow.Author.Tests.{ltb-true, leb-true}
+use Rattle.basics.specs.Prefix.{Prefix}
 use Rattle.basics.specs.Tests.{and-left, and-right}
 use Rattle.refusal.specs.declared.Refusal.{Refusal}
 use Rattle.refusal.specs.declared.Refusal.the-variants.{Name, Arity, Range, Unbound}
@@ -27,7 +28,7 @@ use Rattle.forms.specs.Tree.Atom.{equal, holds}
 use Rattle.forms.specs.Tree.Diagram.{number as numeral, branch as conditional}
 use Rattle.reading.specs.declared.Binding.{Binding}
 use Rattle.reading.specs.declared.Binding.the-variants.{Any, None, Only}
-use Rattle.reading.specs.Reading.{Names, constantNumber, parameterNumber, met, Met, arguments, numberIn, variableNumber, minimumNumber, variableMet, minimumMet, isWithin}
+use Rattle.reading.specs.Reading.{Environment, constantNumber, parameterNumber, met, Met, arguments, numberIn, variableNumber, minimumNumber, variableMet, minimumMet, isWithin}
 use Rattle.reading.specs.OutcomeLaws.{Match}
 use Rattle.reading.specs.OccurrenceLaws.{kept, keptMet, met-kept}
 use Rattle.reading.specs.Tree.{Reading, Result, having, resolveTerm, joined, resolveTerms, testing, resolveAtom, branching, resolveDiagram}
@@ -36,7 +37,7 @@ use Rattle.session.specs.Session.{Session, refuseIf}
 use Rattle.session.specs.Facts.{predicateOf}
 use Rattle.session.specs.ModelLines.{namesFor}
 use Rattle.line_trees.specs.TreeReading.{atomTerms, diagramTerms, withOne, variablesAfter, termNumber, termNumbers, atomTest, diagramWords}
-use Rattle.line_trees.specs.VariableLaws.{Extends, extends, number-exact, within-kept, met-numbered}
+use Rattle.line_trees.specs.VariableLaws.{extends, number-exact, within-kept, met-numbered}
 
 -- ===== Two answers that agree =====
 
@@ -62,7 +63,7 @@ match-test P false o p r m = refl
 
 -- S ws ts: with the variables ws met so far, the terms ts are still to come
 module _ (σ : Session) (b : Binding) (ps : List Key) (vs : Met) (S : Met → List T.Term → Type 0) where
-  abbrev names : Names
+  abbrev names : Environment
   names = namesFor (σ .names) (σ .model .arities) b ps
 
   -- the same value, where the line's variables are within the limits
@@ -211,7 +212,7 @@ reads-any σ ps us d = tracked σ Any ps vs (Meets vs) (record { each = each; co
     there false x y ws ts e f m = absurd (let z : _≡_ {A = ℕ} 0 1 = cc in omega arith)
 
     -- a variable of a kind: all those of the kind met before it, us those kept of them with it, later those of the line
-    one : (first : ℕ) (k : Key) (all us ks later : List Key) (ws : Met) (ts : List T.Term) → us ≡ kept (withOne all k) → ks ≡ later → Extends (withOne all k) later
+    one : (first : ℕ) (k : Key) (all us ks later : List Key) (ws : Met) (ts : List T.Term) → us ≡ kept (withOne all k) → ks ≡ later → Prefix (withOne all k) later
         → (isWithin vs ≡ true → length ks ≤ variableCount) → Meets vs ws ts
         → Match (Same σ Any ps vs (Meets vs) ts) (ok (record { value = numberIn first us k; met = ws })) (refuseIf (not (isAmong k ks)) Unbound (ok (first + placeOf k ks)))
     one first k all us ks later ws ts next whole more within m =

@@ -16,9 +16,10 @@ use Rattle.forms.specs.Tree.Diagram.{number as numeral, branch as conditional}
 use Rattle.events.specs.Events.{diagramEvents}
 use Rattle.reading.specs.declared.Binding.{Binding}
 use Rattle.reading.specs.Operations.{Op}
-use Rattle.reading.specs.Reading.{Names, Met, Written, isWithin, reading}
+use Rattle.reading.specs.Reading.{Environment, Met, Written, isWithin, reading}
 use Rattle.reading.specs.OutcomeLaws.{ok-one, passed, chained, Match}
-use Rattle.reading.specs.Tree.{Reading, Result, resolveAtom, branching, resolveDiagram, opsOf, writing, diagramReading, depth}
+use Rattle.reading.specs.Inner.{writing, diagramReading, depth}
+use Rattle.reading.specs.Tree.{Reading, Result, resolveAtom, branching, resolveDiagram, opsOf}
 use Rattle.reading.specs.Tree.Reading.{branch}
 use Rattle.reading.specs.TreeLaws.{reading-diagram}
 use Rattle.build.specs.Machine.{mostTests}
@@ -28,7 +29,7 @@ use Rattle.line_trees.specs.TreeReading.{diagramWords, readTree}
 use Rattle.line_trees.specs.ResolvedLaws.{Counted, Reads}
 
 -- of what a diagram stands for no more (if ..) are open together than brackets
-resolved-depth : (ν : Names) (d : T.Diagram) (vs : Met) (g : Result Reading) → resolveDiagram ν vs d ≡ ok g → depth (g .value) ≤ T.brackets d
+resolved-depth : (ν : Environment) (d : T.Diagram) (vs : Met) (g : Result Reading) → resolveDiagram ν vs d ≡ ok g → depth (g .value) ≤ T.brackets d
 resolved-depth ν (numeral n) vs g e =
     let c = passed (leb (valueOf n) highestValue) _ Range g e in
     subst (λ (x : Result Reading). depth (x .value) ≤ 0) (c .1) (omega arith)
@@ -50,7 +51,7 @@ read-built machine tree law σ b ps vs ws d shallow reads k =
     ap (λ (j : Outcome Written). andThen j (λ w. andThen (machine (w .operations)) k)) (reading-diagram ν d ws)
     ∙ go (resolveDiagram ν ws d) (diagramWords σ ps vs d) (λ g e. omega (arith, resolved-depth ν d ws g e)) reads
   where
-    ν : Names
+    ν : Environment
     ν = namesFor (σ .names) (σ .model .arities) b ps
 
     wrote : Result Reading → Written

@@ -33,7 +33,7 @@ use Rattle.session.specs.Facts.{predicateOf, objectsLine, isLine, trueLine}
 use Rattle.session.specs.ModelLines.{mostModelRows, rowsWith, withReward, withVariant, truthsNow, isSome, withTruth}
 use Rattle.session.specs.Replaying.{didLine}
 use Rattle.session.specs.Running.{startLine, valueRead, backupIs, cutIs, reduceIs, formRead, bestRead, countRead}
-use Rattle.session.specs.Replies.{Reply, allowed, refusal, quietly, valueSays, callSays, textSays, bestSays, countSays, didSays, placed}
+use Rattle.session.specs.Replies.{Reply, allowed, refusal, quietly, valueSays, callSays, textSays, bestSays, countSays, didSays, atPlace}
 use Rattle.line_trees.specs.TreeReading.{rewardVariables, readTree}
 
 -- (reward DIAGRAM): no parameter, any variables, of each kind by ascending N where each is written so; its row steps, closed up; last 9 for model rows
@@ -104,4 +104,4 @@ treeDone σ number K.Bad w = refusal σ number Form
 -- line `number` of a text: 5, for (best) also 20, for its place, then the line's own checks
 unfoldable pub treeReply : Session → ℕ → Line → Reply
 unfolding allowed treeDone
-treeReply σ number (line k w) = placed σ number (allowed σ (ruleOf k (σ .part))) (treeDone σ number k w)
+treeReply σ number (line k w) = atPlace σ number (allowed σ (ruleOf k (σ .part))) (treeDone σ number k w)

@@ -29,7 +29,7 @@ use Rattle.events.specs.Events.{parameterEvent, numberEvent, diagramEvents, wor
 use Rattle.events.specs.LineEvents.{line-events}
 use Rattle.events.specs.Contents.{keysIn, numbersIn}
 use Rattle.reading.specs.declared.Binding.the-variants.{Any, None, Only}
-use Rattle.reading.specs.Reading.{Names as ReadingNames, Met, arguments, Written, reading}
+use Rattle.reading.specs.Reading.{Environment, Met, arguments, Written, reading}
 use Rattle.reading.specs.Numbering.{rewardReading}
 use Rattle.reading.specs.Head.{headNumber, openedNumber, headArguments}
 use Rattle.reading.specs.OccurrenceLaws.{keptMet}
@@ -46,7 +46,7 @@ use Rattle.session.specs.Facts.{predicateOf}
 use Rattle.session.specs.ModelLines.{mostModelRows, namesFor, rowsWith, withReward, rewardRead, rewardLine, withVariant, weightRead, variantLine}
 use Rattle.session.specs.ModelLines.{truthsNow, isSome, withTruth, truthRead, becomesLine}
 use Rattle.session.specs.Replaying.{didLine}
-use Rattle.session.specs.Replies.{Reply, allowed, refusal, quietly, didSays, done, placed, replyTo, wordsOf, reply}
+use Rattle.session.specs.Replies.{Reply, allowed, refusal, quietly, didSays, done, atPlace, replyTo, wordsOf, reply}
 use Rattle.line_trees.specs.TreeReading.{firstVariables, rewardVariables, readTree}
 use Rattle.line_trees.specs.TreeReplies.{rewardTree, weightTree, truthTree, treeDone, treeReply}
 use Rattle.line_trees.specs.VariableLaws.{reading-kept, diagram-keys}
@@ -116,7 +116,7 @@ module _ (σ : Session) where
       ps : List Key
       ps = σ .names .parameters
 
-      ν : ReadingNames
+      ν : Environment
       ν = namesFor (σ .names) ar Only ps
 
       -- the predicate's number, and its arguments
@@ -223,7 +223,7 @@ reply-tree σ number (line k w) g =
     let s : List ℕ = lineBytes (line k w) in
     ap (λ (j : Kind). replyTo σ number j (wordsOf j s)) (line-complete (line k w) g)
     ∙ ap (replyTo σ number k) (line-events k w (g .0))
-    ∙ ap (placed σ number (allowed σ (ruleOf k (σ .part)))) (done-tree σ number k w (g .0) (g .1))
+    ∙ ap (atPlace σ number (allowed σ (ruleOf k (σ .part)))) (done-tree σ number k w (g .0) (g .1))
 
 -- the kind of lines that are not the grammar; no tree is of it
 pub only-bad : (k : Kind) → (isBad k ≡ false → ⊥) → k ≡ K.Bad
@@ -251,7 +251,7 @@ only-bad K.Count h = absurd (h refl)
 only-bad K.Did h = absurd (h refl)
 only-bad K.Bad h = refl
 
-bad-reply : (σ : Session) (number : ℕ) (part : Part) (y : Reply) → placed σ number (allowed σ (ruleOf K.Bad part)) y ≡ refusal σ number Form
+bad-reply : (σ : Session) (number : ℕ) (part : Part) (y : Reply) → atPlace σ number (allowed σ (ruleOf K.Bad part)) y ≡ refusal σ number Form
 unfolding allowed
 bad-reply σ number Model y = refl
 bad-reply σ number Run y = refl

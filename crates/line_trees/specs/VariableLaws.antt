@@ -28,7 +28,7 @@ use Rattle.events.specs.Events.{termEvent, atomEvents, diagramEvents}
 use Rattle.reading.specs.declared.Binding.the-variants.{Any}
 use Rattle.reading.specs.declared.Kind.{Kind}
 use Rattle.reading.specs.declared.Kind.the-variants as K
-use Rattle.reading.specs.Reading.{Names, Met, numberIn, isWithin, reading}
+use Rattle.reading.specs.Reading.{Environment, Met, numberIn, isWithin, reading}
 use Rattle.reading.specs.Occurrences.{variableOf, wordKeys, keysOf}
 use Rattle.reading.specs.Numbering.{variablesFirst, metFirst}
 use Rattle.reading.specs.OccurrenceLaws.{kept, keptMet}
@@ -129,7 +129,7 @@ met-numbered first us k vs x =
     }
 
 -- known before a reward's words, one more than the limit of each kind does
-pub reading-kept : (σ : Names) → σ .binding ≡ Any → (es : List Event) (m : Met) → reading σ es m ≡ reading σ es (keptMet m)
+pub reading-kept : (σ : Environment) → σ .binding ≡ Any → (es : List Event) (m : Met) → reading σ es m ≡ reading σ es (keptMet m)
 reading-kept σ any es m = go (decLt variableCount (length (m .variables))) (decLt variableCount (length (m .minimums)))
   where
     over : (us : List Key) → variableCount < length us → variableCount < length (kept us)

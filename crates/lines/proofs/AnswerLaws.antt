@@ -10,7 +10,8 @@ use Rattle.session.specs.Replies.{done, wordsOf}
 use Rattle.session_laws.specs.TableLaws.{done-bare}
 use Rattle.memory.specs.declared.Numbers.{Numbers}
 use Rattle.memory.specs.declared.Said.{Said}
-use Rattle.memory.specs.Memory.{Memory, memoryOf, sessionOf, Ready, Answers}
+use Rattle.memory.specs.Inner.{Ready, Answers}
+use Rattle.memory.specs.Memory.{Memory, memoryOf, sessionOf}
 use Rattle.memory.specs.CarriedLaws.{carried-same}
 use Rattle.declaration_lines.specs.Lines.{ConstantSays, PredicateSays, TotalSays, DiscountSays, ActionSays}
 use Rattle.desk_lines.specs.Lines.{BestAnswered, CountAnswered, DidAnswered}

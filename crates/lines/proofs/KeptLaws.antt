@@ -9,7 +9,8 @@ use Rattle.facts.specs.Words.{factsBase, liveOf, GoodLive}
 use Rattle.session.specs.Replies.{reply}
 use Rattle.session.specs.Good.{GoodSession}
 use Rattle.memory.specs.declared.Numbers.{Numbers}
-use Rattle.memory.specs.Memory.{Memory, sessionOf, Stored, Kept}
+use Rattle.memory.specs.Inner.{Kept}
+use Rattle.memory.specs.Memory.{Memory, sessionOf, Stored}
 use Rattle.session_laws.specs.FactLaws.{WholeRows}
 use Rattle.session_laws.specs.ReplyLaws.{reply-good}
 

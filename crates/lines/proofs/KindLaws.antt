@@ -11,7 +11,7 @@ use Rattle.basics.specs.Tests.{and-left, and-right}
 use Rattle.text.proofs.Kind.{the-type}
 use Rattle.text.specs.declared.Kind.{Kind}
 use Rattle.text.specs.declared.Kind.the-variants as K
-use Rattle.text.specs.Line.{kinds}
+use Rattle.text.specs.Inner.{kinds}
 use Rattle.lines.specs.Kinds.{isOfModel, isOfRun}
 
 -- a kind's number is its place in the list of kinds, Bad behind them

@@ -16,7 +16,8 @@ use Rattle.session.specs.Facts.{cleared}
 use Rattle.session.specs.Good.{GoodSession}
 use Rattle.session_laws.specs.OpeningLaws.{opening-good}
 use Rattle.declare.specs.Tables.{namesOf}
-use Rattle.facts.specs.Words.{stateWords, factsBase, liveOf, Cleared, Emptied}
+use Rattle.facts.specs.Inner.{Cleared, Emptied}
+use Rattle.facts.specs.Words.{stateWords, factsBase, liveOf}
 use Rattle.facts.specs.WordLaws.{cleared-live, index-none}
 use Rattle.model_entry.specs.BuildingLaws.{begun, begun-model}
 use Rattle.memory.specs.declared.Numbers.{Numbers}

@@ -24,7 +24,8 @@ use Rattle.session_laws.specs.CaseLaws.{reply-line}
 use Rattle.session_laws.specs.BlankLaws.{blank-leaves}
 use Rattle.memory.specs.declared.Numbers.{Numbers}
 use Rattle.memory.specs.declared.Said.{Said}
-use Rattle.memory.specs.Memory.{Memory, sessionOf, Ready, Shown, Kept, Replied}
+use Rattle.memory.specs.Inner.{Ready, Shown, Kept, Replied}
+use Rattle.memory.specs.Memory.{Memory, sessionOf}
 use Rattle.memory.specs.CarriedLaws.{carried-same}
 use Rattle.lines.specs.declared.Placed.{Placed}
 use Rattle.lines.specs.declared.Placed.the-variants.{Done, Refused}

@@ -9,7 +9,8 @@ use Rattle.session.specs.Session.{opening}
 use Rattle.session.specs.Replies.{done, wordsOf}
 use Rattle.memory.specs.declared.Numbers.{Numbers}
 use Rattle.memory.specs.declared.Said.{Said}
-use Rattle.memory.specs.Memory.{Memory, memoryOf, sessionOf, Ready, Answers, Shown, Kept, Rooms, openingNumbers}
+use Rattle.memory.specs.Inner.{Ready, Answers, Shown, Kept}
+use Rattle.memory.specs.Memory.{Memory, memoryOf, sessionOf, Rooms, openingNumbers}
 
 -- numbers and words are the opening session
 pub record Opening (n : Numbers) (w : Memory) : Type 0 where

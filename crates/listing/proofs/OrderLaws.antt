@@ -17,7 +17,8 @@ use Rattle.diagram.specs.Words.{labelAt, highAt, lowAt, rowCount, upTo, finish,
 use Rattle.diagram.specs.WordLaws.{mem-upTo, not-upTo, length-upTo, getD-upTo, finish-old, finish-leaf, finish-branch, grows}
 use Rattle.diagram.specs.Validity.{ValidRow, a-leaf, a-branch, ValidRows, Valid}
 use Rattle.diagram.specs.ListingValid.{valid-is-listing, listing-is-valid}
-use Rattle.listing.specs.Check.{Decides, Downward, Off, Walked}
+use Rattle.listing.specs.Inner.{Downward, Off, Walked}
+use Rattle.listing.specs.Check.{Decides}
 
 -- a row out of its place
 off-place : (b i : ℕ) → (b ≡ i → ⊥) → Off (upTo b ++ (i ∷ []))

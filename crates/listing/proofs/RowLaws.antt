@@ -11,7 +11,7 @@ use Rattle.basics.specs.Tests.{Cmp, cmp, below, equal, above}
 use Rattle.label.specs.Limits.{leafMark}
 use Rattle.label.specs.Labels.{isLabel}
 use Rattle.label.specs.LabelLaws.{label-below}
-use Rattle.label.specs.Order.{Compared}
+use Rattle.label.specs.Inner.{Compared}
 use Rattle.label.specs.OrderLaws.{compared-less, compared-not}
 use Rattle.table.specs.declared.Row.{Row}
 use Rattle.table.specs.declared.Found.{Found}
@@ -24,7 +24,8 @@ use Rattle.diagram.specs.Sizes.{highestValue}
 use Rattle.diagram.specs.Words.{labelAt, highAt, lowAt, equalRows}
 use Rattle.diagram.specs.WordLaws.{rows-differ, differ-rows}
 use Rattle.diagram.specs.Validity.{LeafRow, BranchRow, ValidRow, a-leaf, a-branch, ValidRows}
-use Rattle.listing.specs.Check.{Decides, Entered}
+use Rattle.listing.specs.Inner.{Entered}
+use Rattle.listing.specs.Check.{Decides}
 
 pub deny : {P : Type 0} → (P → ⊥) → Decides false P
 deny f = record { yes = λ e. absurd (true≢false (sym e)); no = λ e. f }

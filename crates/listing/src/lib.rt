@@ -12,7 +12,8 @@ ghost use Rattle.table.specs.Table.{Table};
 ghost use Rattle.diagram.specs.Words.{isListing};
 ghost use Rattle.diagram.specs.Listing.{diagramOf};
 ghost use Rattle.diagram.specs.Validity.{ValidRow, ValidRows, Valid};
-ghost use Rattle.listing.specs.Check.{Decides, Entered, Downward, Walked};
+ghost use Rattle.listing.specs.Inner.{Entered, Downward, Walked};
+ghost use Rattle.listing.specs.Check.{Decides};
 ghost use Rattle.listing.specs.Used.{rowTerms, marked, Markable, Cleared, Used, setFrom, markedVariables, markedMinimums};
 
 // Whether row i is a leaf or a branch, its children before it.

@@ -16,7 +16,8 @@ use Rattle.cutting.specs.Match.{start, matches}
 use Rattle.cutting.specs.Cut.{covers}
 use Rattle.cutting.specs.Searchable.{Searchable, PathLabels}
 use Rattle.cutting.specs.CoverLaws.{searchable}
-use Rattle.paths.specs.Routes.{AllInRange, pathAt, Entered, literalsIn}
+use Rattle.paths.specs.Inner.{AllInRange, Entered, literalsIn}
+use Rattle.paths.specs.Routes.{pathAt}
 use Rattle.matcher.specs.Covering.{Target, Held, Covering}
 use Rattle.matcher.specs.Stored.{Marks, Enterable, Stored, Ready, BothStored, Answers}
 use Rattle.matcher.specs.Parts.{Kinds, PartsPost, WaysPost}

@@ -15,7 +15,7 @@ use Rattle.label.specs.Limits.{firstVariable, firstMinimum, mostPlaces}
 use Rattle.label.specs.Terms.{isVariable}
 use Rattle.label.specs.Labels.{areArities, unpacked, termsOf}
 use Rattle.paths.specs.Paths.{Literal, Path, literals, termsIn}
-use Rattle.paths.specs.Routes.{literalsIn}
+use Rattle.paths.specs.Inner.{literalsIn}
 use Rattle.cutting.specs.Match.{Partial, start, matches}
 use Rattle.cutting.specs.Cut.{covers}
 use Rattle.cutting.specs.Searchable.{Searchable}

@@ -15,7 +15,7 @@ use Rattle.label.specs.Labels.{predicateOf, placeAt, atomFrom, packed, equates}
 use Rattle.label.specs.declared.Label.{Label}
 use Rattle.label.specs.declared.Test.{Test}
 use Rattle.label.specs.declared.Test.the-variants.{Always, Is}
-use Rattle.paths.specs.Routes.{labelEnd}
+use Rattle.paths.specs.Inner.{labelEnd}
 use Rattle.cutting.specs.MovedLaws.{equates-same, equates-less, equates-more}
 use Rattle.matcher.specs.Search.{isEquality, allOf, allKnown, Sorted, Finds, imageOf, Images, packing, imageLabel, Met, truth, other}
 use Rattle.matcher.specs.Search.{equal as matched}

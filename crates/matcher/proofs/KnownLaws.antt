@@ -10,7 +10,7 @@ use Rattle.label.specs.Limits.{firstVariable, variableCount, firstMinimum, most
 use Rattle.label.specs.Labels.{isLabel, placeAt, termsOf, unpacked}
 use Rattle.cutting.specs.Match.{Partial, start, matches}
 use Rattle.cutting.specs.MatchLaws.{Solves}
-use Rattle.paths.specs.Routes.{InRange, literalAt, literalsIn}
+use Rattle.paths.specs.Inner.{InRange, literalAt, literalsIn}
 use Rattle.matcher.specs.Search.{segment, allKnown, Met, Setting, Inside}
 use Rattle.matcher.specs.Failure.{In, Variables, Agrees, Solving, SolvePost}
 use Rattle.matcher.specs.declared.Answer.{Answer}

@@ -12,7 +12,7 @@ use Rattle.basics.specs.Members.{clash}
 use Rattle.label.specs.Limits.{firstVariable, variableCount, firstMinimum, mostPlaces}
 use Rattle.label.specs.Labels.{placeAt}
 use Rattle.paths.specs.Paths.{Literal}
-use Rattle.paths.specs.Routes.{literalAt, literalsIn}
+use Rattle.paths.specs.Inner.{literalAt, literalsIn}
 use Rattle.cutting.specs.Match.{matches}
 use Rattle.matcher.specs.Search.{placesIn, segment, known, Slots, wayCount}
 use Rattle.matcher.specs.Failure.{In, Variables, Bound, Nogood, Remembers, RecallPost, isFound, Solving, SolvePost}

@@ -13,7 +13,7 @@ use Rattle.basics.specs.Members.{clash}
 use Rattle.label.specs.Limits.{firstMinimum}
 use Rattle.label.specs.Labels.{predicateOf}
 use Rattle.paths.specs.Paths.{Literal}
-use Rattle.paths.specs.Routes.{literalAt, literalsIn}
+use Rattle.paths.specs.Inner.{literalAt, literalsIn}
 use Rattle.matcher.specs.Search.{isEquality, alike, intoCount, intoAt}
 
 pub mem-at : {A : Type 0} (f : ℕ → A) (xs : List ℕ) (i : ℕ) → i < length xs → List·Memᴰ (f (getD xs i 0)) (map f xs)

@@ -13,7 +13,7 @@ use Rattle.label.specs.Labels.{predicateOf, placeAt}
 use Rattle.label.specs.ArityLaws.{arity-most}
 use Rattle.label.proofs.CodeLaws.{under-all}
 use Rattle.listing.specs.Used.{marked}
-use Rattle.paths.specs.Routes.{InRange}
+use Rattle.paths.specs.Inner.{InRange}
 use Rattle.matcher.specs.Search.{along, late, Unplaced}
 use Rattle.matcher.specs.Stored.{termsOfCode, Markable, Coded, Cleared, Marking}
 use Rattle.paths.specs.PathLaws.{range-terms}

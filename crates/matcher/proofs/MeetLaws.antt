@@ -14,7 +14,7 @@ use Rattle.label.specs.Renamings.{moved}
 use Rattle.label.specs.declared.Test.{Test}
 use Rattle.label.specs.declared.Test.the-variants.{Always, Is}
 use Rattle.paths.specs.Paths.{Literal}
-use Rattle.paths.specs.Routes.{literalAt, literalsIn}
+use Rattle.paths.specs.Inner.{literalAt, literalsIn}
 use Rattle.cutting.specs.Cut.{Matched, plain, found}
 use Rattle.cutting.specs.MovedLaws.{asks, moved-asks, asks-other, Two, two, length-two}
 use Rattle.cutting.specs.MatchLaws.{lit}

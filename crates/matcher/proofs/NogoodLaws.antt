@@ -11,7 +11,7 @@ use Rattle.label.specs.Limits.{firstVariable, firstMinimum, mostPlaces}
 use Rattle.label.specs.Terms.{isVariable}
 use Rattle.label.specs.Labels.{isLabel, placeAt, termsOf, unpacked}
 use Rattle.paths.specs.Paths.{Literal}
-use Rattle.paths.specs.Routes.{literalAt, literalsIn}
+use Rattle.paths.specs.Inner.{literalAt, literalsIn}
 use Rattle.cutting.specs.Match.{Partial, start, agree, bindTerm, thenBind, bindTerms, targets}
 use Rattle.cutting.specs.Cut.{Matched}
 use Rattle.cutting.specs.MatchLaws.{Solves, binds-some, binds-only, target-sound, target-complete}

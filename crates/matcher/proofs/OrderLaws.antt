@@ -12,7 +12,7 @@ use Rattle.basics.specs.Tests.{Cmp, cmp, below, equal, above}
 use Rattle.listing.specs.Used.{marked}
 use Rattle.label.specs.Limits.{firstVariable, firstMinimum, mostPlaces}
 use Rattle.label.specs.Labels.{placeAt}
-use Rattle.paths.specs.Routes.{InRange, AllInRange}
+use Rattle.paths.specs.Inner.{InRange, AllInRange}
 use Rattle.matcher.specs.Search.{placesIn, anyOf}
 use Rattle.matcher.specs.Parts.{isSeen, shares, strange, worst, Ranked, Strangers, Best, SeenTo, Reordered, Takable, Taken, Separable, PartTaken}
 use Rattle.matcher.specs.declared.Pick.{Pick}

@@ -14,7 +14,7 @@ use Rattle.paths.specs.Paths.{Literal}
 use Rattle.cutting.specs.Match.{start, matches}
 use Rattle.cutting.specs.Searchable.{Searchable}
 use Rattle.cutting.specs.MatchLaws.{in-terms, matches-order}
-use Rattle.paths.specs.Routes.{InRange, AllInRange, literalAt, literalsIn}
+use Rattle.paths.specs.Inner.{InRange, AllInRange, literalAt, literalsIn}
 use Rattle.matcher.specs.Search.{Setting}
 use Rattle.matcher.specs.Stored.{Ready, PartPost}
 use Rattle.matcher.specs.Parts.{Strangers, SeenTo, Reordered, Separable, PartTaken, PartsPost}

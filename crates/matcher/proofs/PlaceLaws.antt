@@ -9,7 +9,7 @@ use lib.Seq.{getD-set-same, getD-set-other}
 use Rattle.basics.specs.Tests.{Cmp, cmp, below, equal, above}
 use Rattle.label.specs.Limits.{firstVariable, firstMinimum, mostPlaces}
 use Rattle.label.specs.Labels.{placeAt}
-use Rattle.paths.specs.Routes.{AllInRange}
+use Rattle.paths.specs.Inner.{AllInRange}
 use Rattle.matcher.specs.Search.{termAt, late, Unplaced, Placing}
 
 -- place m of the literals

@@ -19,7 +19,7 @@ use Rattle.diagram.specs.RowLaws.{same-tests}
 use Rattle.paths.specs.Paths.{Literal, termsIn}
 use Rattle.cutting.specs.Match.{Partial, assign, agree, bindTerm, thenBind, bindTerms, targets, someOf, goOn, matches}
 use Rattle.cutting.specs.MatchLaws.{some-in, some-out, target-image, target-complete, in-terms}
-use Rattle.paths.specs.Routes.{InRange, AllInRange, literalAt, literalsIn}
+use Rattle.paths.specs.Inner.{InRange, AllInRange, literalAt, literalsIn}
 use Rattle.matcher.specs.Search.{placesIn, turn, wayPlace, wayPlaces, isNothing, termAt, segment, known, Slots, Replacing, wayAt, wayCount, allKnown, Images}
 use Rattle.matcher.specs.Search.{Met, Sorted, Tabled, Setting, Inside}
 use Rattle.matcher.specs.declared.Way.{Way}

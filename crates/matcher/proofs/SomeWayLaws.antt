@@ -14,7 +14,7 @@ use Rattle.basics.specs.Members.{clash}
 use Rattle.label.specs.Limits.{firstMinimum}
 use Rattle.label.specs.Labels.{predicateOf}
 use Rattle.paths.specs.Paths.{Literal}
-use Rattle.paths.specs.Routes.{literalAt, literalsIn}
+use Rattle.paths.specs.Inner.{literalAt, literalsIn}
 use Rattle.cutting.specs.Match.{start, waysAmong, plainWays, targets, matches}
 use Rattle.cutting.specs.Searchable.{Searchable}
 use Rattle.cutting.specs.MatchLaws.{among-out, some-out}

@@ -22,7 +22,8 @@ use Rattle.cutting.specs.Searchable.{PathLabels}
 use Rattle.cutting.specs.CoverLaws.{path-labels, path-plain}
 use Rattle.paths.specs.CodeLaws.{half, codes-are}
 use Rattle.paths.specs.PathLaws.{range-terms, paths-branch}
-use Rattle.paths.specs.Routes.{bit, codeOf, codes, stepOn, pathAt, At, Entered, InRange, literalsIn}
+use Rattle.paths.specs.Inner.{bit, codeOf, codes, At, Entered, InRange, literalsIn}
+use Rattle.paths.specs.Routes.{stepOn, pathAt}
 use Rattle.matcher.specs.Stored.{termsOfCode, Coded, Marking, Enterable, Stored}
 use Rattle.paths.specs.PathLaws.{path-in, path-high, path-low, codes-step}
 use Rattle.matcher.proofs.CoversLaws.{of-terms}

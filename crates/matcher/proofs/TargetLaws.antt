@@ -15,7 +15,7 @@ use Rattle.label.specs.Limits.{firstMinimum, mostPlaces}
 use Rattle.label.specs.Labels.{areArities, isLabel, predicateOf, unpacked, termsOf}
 use Rattle.label.specs.ArityLaws.{terms-length, arity-two}
 use Rattle.paths.specs.Paths.{Literal}
-use Rattle.paths.specs.Routes.{literalAt, literalsIn}
+use Rattle.paths.specs.Inner.{literalAt, literalsIn}
 use Rattle.cutting.specs.Match.{Partial, bindTerms, turned, ways, waysAmong, plainWays, targets}
 use Rattle.cutting.specs.MovedLaws.{EqualityTerms, equality-terms, two}
 use Rattle.cutting.specs.MatchLaws.{lit, among-in, among-out, twice-in, twice-out}

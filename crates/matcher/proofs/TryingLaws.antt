@@ -12,7 +12,7 @@ use Rattle.basics.specs.Tests.{Cmp, cmp, below, equal, above}
 use Rattle.basics.specs.Members.{clash}
 use Rattle.label.specs.Limits.{firstVariable, variableCount, firstMinimum, mostPlaces}
 use Rattle.label.specs.Labels.{placeAt}
-use Rattle.paths.specs.Routes.{literalsIn}
+use Rattle.paths.specs.Inner.{literalsIn}
 use Rattle.cutting.specs.Match.{Partial, start, bindTerms, goOn, matches}
 use Rattle.cutting.specs.MatchLaws.{Solves}
 use Rattle.matcher.specs.Search.{placesIn, segment, known, Replacing, wayPlace, wayPlaces, isNothing, BindPost, TryPost, no-way, a-way, wayAt, wayCount, Tabled, Setting, Inside}

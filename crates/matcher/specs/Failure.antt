@@ -9,7 +9,7 @@ use Rattle.label.specs.Limits.{firstVariable, variableCount, firstMinimum, most
 use Rattle.label.specs.Labels.{placeAt}
 use Rattle.cutting.specs.Match.{start, matches}
 use Rattle.cutting.specs.MatchLaws.{Solves}
-use Rattle.paths.specs.Routes.{AllInRange, literalsIn}
+use Rattle.paths.specs.Inner.{AllInRange, literalsIn}
 use Rattle.matcher.specs.Search.{segment, known, Replacing, Sorted, Tabled, Setting, Inside}
 use Rattle.matcher.specs.declared.Answer.{Answer}
 use Rattle.matcher.specs.declared.Answer.the-variants.{Found, Failed, Weary}

@@ -10,7 +10,7 @@ use Rattle.label.specs.Limits.{firstVariable, firstMinimum, predicateCount, mos
 use Rattle.label.specs.Labels.{predicateOf, placeAt}
 use Rattle.paths.specs.Paths.{mostPaths}
 use Rattle.cutting.specs.Match.{start, matches}
-use Rattle.paths.specs.Routes.{AllInRange, literalsIn}
+use Rattle.paths.specs.Inner.{AllInRange, literalsIn}
 use Rattle.matcher.specs.Search.{isEquality, anyOf, alike, Setting}
 use Rattle.matcher.specs.declared.Pick.{Pick}
 

@@ -11,7 +11,7 @@ use Rattle.label.specs.Limits.{firstVariable, firstMinimum, termBase, mostPlace
 use Rattle.label.specs.Labels.{predicateOf, placeAt, equates}
 use Rattle.label.specs.declared.Test.the-variants.{Always, Is}
 use Rattle.paths.specs.Paths.{mostPaths, Literal, termsIn}
-use Rattle.paths.specs.Routes.{InRange, literalAt, literalsIn}
+use Rattle.paths.specs.Inner.{InRange, literalAt, literalsIn}
 use Rattle.cutting.specs.Match.{Partial, bindTerms}
 use Rattle.cutting.specs.Searchable.{AllLabels, Searchable}
 use Rattle.matcher.specs.declared.Way.{Way}

@@ -13,7 +13,7 @@ use Rattle.paths.specs.Paths.{mostPaths, Literal, Path, literals, termsIn}
 use Rattle.cutting.specs.Match.{start, matches}
 use Rattle.cutting.specs.Cut.{covers}
 use Rattle.cutting.specs.Searchable.{PathLabels}
-use Rattle.paths.specs.Routes.{InRange, AllInRange, Rows, Counted, At, literalsIn}
+use Rattle.paths.specs.Inner.{InRange, AllInRange, Rows, Counted, At, literalsIn}
 use Rattle.matcher.specs.Search.{Sorted, Setting}
 
 -- table marks the terms of the literals

@@ -19,7 +19,8 @@ use Rattle.diagram.specs.Diagram.{Diagram, leaf, eval, relabel}
 use Rattle.diagram.specs.Rows.{rows, onto}
 use Rattle.diagram.specs.Listing.{Fine, Good as Listed}
 use Rattle.diagram.specs.Variables.{occurs, variables, minimums, isPlain, closed, after}
-use Rattle.rename.specs.Freeing.{freed, Freeable}
+use Rattle.rename.specs.Inner.{Freeable}
+use Rattle.rename.specs.Freeing.{freed}
 use Rattle.rename.specs.ClosingLaws.{closed-count, closed-good, closed-twice, after-fit, after-good}
 use Rattle.rename.specs.FreeingLaws.{freed-good}
 use Rattle.apply.specs.declared.Operation.{Operation}

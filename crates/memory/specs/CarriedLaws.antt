@@ -8,7 +8,8 @@ use Rattle.session.specs.declared.Part.{Part}
 use Rattle.session.specs.declared.Part.the-variants.{Model, Run}
 use Rattle.model_entry.specs.StartLaws.{starts-same}
 use Rattle.memory.specs.declared.Numbers.{Numbers}
-use Rattle.memory.specs.Memory.{Memory, memoryOf, Carried}
+use Rattle.memory.specs.Inner.{Carried}
+use Rattle.memory.specs.Memory.{Memory, memoryOf}
 
 -- nothing is done
 pub carried-same : (n : Numbers) (w : Memory) → Carried n w n w

@@ -1,5 +1,6 @@
 -- A session in lent words.
 pub mod Memory
+pub mod Inner
 pub mod Saving
 -- laws
 pub mod WordLaws

@@ -13,9 +13,10 @@ use Rattle.session.specs.declared.Rule.the-variants.{Misplaced}
 use Rattle.session.specs.Place.{ruleOf}
 use Rattle.session.specs.Session.{Session}
 use Rattle.session.specs.Replies.{Reply, allowed, quietly, done, wordsOf}
-use Rattle.facts.specs.Words.{FactIndex}
+use Rattle.facts.specs.Inner.{FactIndex}
 use Rattle.memory.specs.declared.Numbers.{Numbers}
-use Rattle.memory.specs.Memory.{Memory, sessionOf, Stored, Ready, Carried, Answers}
+use Rattle.memory.specs.Inner.{Ready, Carried, Answers}
+use Rattle.memory.specs.Memory.{Memory, sessionOf, Stored}
 use Rattle.memory.specs.CarriedLaws.{carried-same}
 
 module _ {A : Type 0} {k : Kind} {s : List ℕ} {number : ℕ} {n : Numbers} {w : Memory} (f : A → Session) (o : Outcome A)

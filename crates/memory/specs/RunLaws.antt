@@ -24,10 +24,12 @@ use Rattle.session.specs.Session.{Session, refuseIf}
 use Rattle.session.specs.Place.{ruleOf}
 use Rattle.session.specs.Replies.{isPlaced, allowed}
 use Rattle.facts.specs.Words.{liveOf}
-use Rattle.model.specs.Layout.{modelOf, Laid}
+use Rattle.model.specs.Inner.{Laid}
+use Rattle.model.specs.Layout.{modelOf}
 use Rattle.model_entry.specs.BuildingLaws.{building-laid}
 use Rattle.memory.specs.declared.Numbers.{Numbers}
-use Rattle.memory.specs.Memory.{Memory, sessionOf, Holding, Stored, Ready}
+use Rattle.memory.specs.Inner.{Ready}
+use Rattle.memory.specs.Memory.{Memory, sessionOf, Holding, Stored}
 
 placed-run : (σ : Session) (k : Kind) (p : Part) → ruleOf k Model ≡ Misplaced → allowed σ (ruleOf k p) ≡ ok tt → p ≡ Run
 unfolding allowed

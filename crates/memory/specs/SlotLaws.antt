@@ -21,11 +21,13 @@ use Rattle.regression.specs.RegressCall.{truthsOf}
 use Rattle.model.specs.Layout.{weightWords, spansAt, variantPlace, variantAt, variantsOf, actionAt, modelOf}
 use Rattle.session.specs.ModelLines.{isSome}
 use Rattle.model_entry.specs.Building.{newAction, newVariant, truthPlace}
-use Rattle.model_entry.specs.Starts.{Slot, reward, weight, truth, variantsIn, truthsAt, hasListing, hasStart, startsBehind, HasListing}
+use Rattle.model_entry.specs.Inner.{HasListing}
+use Rattle.model_entry.specs.Starts.{Slot, reward, weight, truth, variantsIn, truthsAt, hasListing, hasStart, startsBehind}
 use Rattle.model_entry.specs.WordLaws.{truth-here, truth-none}
 use Rattle.model_entry.specs.NameLaws.{variants-are}
 use Rattle.memory.specs.declared.Numbers.{Numbers}
-use Rattle.memory.specs.Memory.{Memory, sessionOf, startsOf, Stored, Carried}
+use Rattle.memory.specs.Inner.{Carried}
+use Rattle.memory.specs.Memory.{Memory, sessionOf, startsOf, Stored}
 
 -- ===== Variants and truth diagrams of the actions in words =====
 

@@ -8,7 +8,8 @@ use Rattle.basics.specs.Members.{clash}
 use Rattle.facts.specs.declared.Live.{Live}
 use Rattle.facts.specs.Words.{GoodLive}
 use Rattle.memory.specs.declared.Numbers.{Numbers}
-use Rattle.memory.specs.Memory.{Memory, memoryOf, Stored, withState}
+use Rattle.memory.specs.Inner.{withState}
+use Rattle.memory.specs.Memory.{Memory, memoryOf, Stored}
 
 -- a reward that was accepted has words
 pub stored-reward : {n : Numbers} {w : Memory} → Stored n w → n .reward ≡ true → n .head .«reward_words» ≡ 0 → ⊥

@@ -15,12 +15,13 @@ use Rattle.events.specs.declared.Event.the-variants.{Name, Variable, Parameter,
 use Rattle.events.specs.declared.Seen.{Seen}
 use Rattle.events.specs.declared.Next.{Next}
 use Rattle.events.specs.Events.{firstWord}
-use Rattle.events.specs.Front.{isIf, atomFront, numberFront, frontOf, nextAt, isEnd, eventsOf}
+use Rattle.events.specs.Inner.{nextAt}
+use Rattle.events.specs.Front.{isIf, atomFront, numberFront, frontOf, isEnd, eventsOf}
 use Rattle.events.specs.FrontLaws.{next-end, next-more, next-moves}
 use Rattle.events.specs.Contents.{wordAt}
 use Rattle.session.specs.Replies.{wordsOf}
-use Rattle.facts.specs.Words.{mostBytes}
-use Rattle.memory.specs.Memory.{LineOf}
+use Rattle.facts.specs.Inner.{mostBytes}
+use Rattle.memory.specs.Inner.{LineOf}
 
 -- the end takes no byte
 record Rests (x : Seen) : Type 0 where

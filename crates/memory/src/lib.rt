@@ -3,13 +3,14 @@ use answers::Answer;
 use declare::Counts;
 use facts::Live;
 use model::Head;
-use planner::Held;
+use planner::RunNumbers;
 use session::Part;
 ghost use mathlib.Core.Path.{_≡_};
 ghost use mathlib.Core.List.{_++_};
 ghost use Prim.Native.Nat.{_≤_};
 ghost use lib.ListN.{length, drop};
-ghost use Rattle.memory.specs.Memory.{openingNumbers, withState};
+ghost use Rattle.memory.specs.Inner.{withState};
+ghost use Rattle.memory.specs.Memory.{openingNumbers};
 ghost use Rattle.memory.specs.Saving.{numberWords, partWord, partOf, flagWord, savedWords, numbersAt, linesAt, metAt};
 
 // A session's numbers: the part of the text, which single forms were accepted, and how much of each lent table counts.
@@ -21,7 +22,7 @@ pub struct Numbers {
     pub counts: Counts,
     pub head: Head,
     pub live: Live,
-    pub held: Held,
+    pub held: RunNumbers,
 }
 
 // The numbers behind a line, and what the line is answered.
@@ -70,7 +71,7 @@ pub fn opening() -> Numbers
             count: 0,
             total: 0,
         },
-        held: Held {
+        held: RunNumbers {
             rows: 0,
             steps: 0,
             power: 1,
@@ -222,7 +223,7 @@ pub fn load(words: &[u64]) -> Numbers
             count: words[19],
             total: words[20],
         },
-        held: Held {
+        held: RunNumbers {
             rows: words[21] as usize,
             steps: words[22],
             power: words[23],

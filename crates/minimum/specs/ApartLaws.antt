@@ -18,7 +18,8 @@ use Rattle.state.specs.Highest.{vars, Bound}
 use Rattle.state.specs.HighestLaws.{vars-in, highest-max}
 use Rattle.minimum.specs.MinLaws.{max-min}
 use Rattle.minimum.specs.Number.{Under, Number, number}
-use Rattle.minimum.specs.Operations.{Plain, Fixed, Disjoint, Rises}
+use Rattle.minimum.specs.Inner.{Fixed, Disjoint}
+use Rattle.minimum.specs.Operations.{Plain, Rises}
 use Rattle.minimum.specs.NumberLaws.{number-is, number-equal, under-self}
 use Rattle.minimum.specs.PlainLaws.{highest-number, number-highest}
 

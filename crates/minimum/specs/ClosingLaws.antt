@@ -18,7 +18,8 @@ use Rattle.state.specs.ValueLaws.{by-low, Terms-map}
 use Rattle.state.specs.Highest.{vars, Bound}
 use Rattle.state.specs.HighestLaws.{vars-up, vars-in}
 use Rattle.minimum.specs.Number.{Number, maximums, minimums, number}
-use Rattle.minimum.specs.Operations.{Rises, KindByKind, closedKinds, afterKinds}
+use Rattle.minimum.specs.Inner.{KindByKind}
+use Rattle.minimum.specs.Operations.{Rises, closedKinds, afterKinds}
 use Rattle.minimum.specs.NumberLaws.{number-is, number-equal, below-in, from-in}
 use Rattle.minimum.specs.ApartLaws.{in-mem, Told, number-told}
 use Rattle.minimum.specs.RenamedLaws.{number-renamed, order-single}

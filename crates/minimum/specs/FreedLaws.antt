@@ -16,10 +16,9 @@ use Rattle.state.specs.State.{Atomic, State, Good, value, low, fixed, Fits}
 use Rattle.state.specs.Terms.{rename}
 use Rattle.state.specs.ValueLaws.{low-lt, low-ge, by-low, rename-value, value-same}
 use Rattle.state.specs.HighestLaws.{bound-tuple}
-use Rattle.minimum.specs.Min.{Met}
+use Rattle.minimum.specs.Inner.{Met, Room}
 use Rattle.minimum.specs.MinLaws.{max-min}
 use Rattle.minimum.specs.Number.{Under, Number, number}
-use Rattle.minimum.specs.Operations.{Room}
 use Rattle.minimum.specs.NumberLaws.{number-is, number-equal, split, split-low, split-high, split-under}
 
 -- ===== A tuple of objects chosen freely =====

@@ -44,6 +44,7 @@
 pub mod Min
 pub mod Number
 pub mod Operations
+pub mod Inner
 -- laws
 pub mod MinLaws
 pub mod ReachLaws

@@ -17,10 +17,6 @@ pub record IsMaxMin {X : Type 0} (P : X → Type 0) (Q : X → X → Type 0) (f 
   pub lowest : IsMin (Q point) f x
   pub bound : (a : X) → P a → (b : X) × Q a b × (f b ≤ x)
 
--- each choice of P is met by one of P′ that does as well: an answer to it is met by an answer to the first that is as low
-abbrev pub Met : {X Y : Type 0} (P : X → Type 0) (Q : X → X → Type 0) (f : X → ℕ) (P′ : Y → Type 0) (Q′ : Y → Y → Type 0) (g : Y → ℕ) → Type 0
-Met {X} {Y} P Q f P′ Q′ g = (a : X) → P a → (a′ : Y) × P′ a′ × ((b′ : Y) → Q′ a′ b′ → (b : X) × Q a b × (f b ≤ g b′))
-
 -- the lowest of f 0 .. f (n - 1); 0 if there is none
 unfoldable pub minTo : ℕ → (ℕ → ℕ) → ℕ
 minTo zero f = 0

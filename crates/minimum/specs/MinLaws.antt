@@ -6,7 +6,8 @@ use native.Mathlib.Omega.{arith}
 use native.Mathlib.Nat.{le-trans, le-refl, mul-le-mul-right}
 use lib.Dec.{leb}
 use borrow.Author.Tests.{leb-true, leb-false}
-use Rattle.minimum.specs.Min.{IsMin, IsMaxMin, Met, minTo}
+use Rattle.minimum.specs.Inner.{Met}
+use Rattle.minimum.specs.Min.{IsMin, IsMaxMin, minTo}
 
 -- ===== Minima =====
 

@@ -11,7 +11,7 @@ use Rattle.state.specs.Terms.{Terms}
 use Rattle.state.specs.ValueLaws.{low-lt, low-ge, by-low, value-same}
 use Rattle.state.specs.Highest.{start, Bound}
 use Rattle.state.specs.HighestLaws.{start-fits}
-use Rattle.minimum.specs.Min.{Met}
+use Rattle.minimum.specs.Inner.{Met}
 use Rattle.minimum.specs.Number.{Under, Number}
 use Rattle.minimum.specs.NumberLaws.{number-by}
 

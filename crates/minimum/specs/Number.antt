@@ -7,27 +7,18 @@ use Prim.Native.Nat.{ℕ, _<_}
 use lib.Dec.{ltb}
 use Rattle.label.specs.Limits.{firstMinimum}
 use Rattle.diagram.specs.Diagram.{Tree}
-use Rattle.state.specs.Max.{IsMax}
 use Rattle.state.specs.State.{Atomic, State, value, Fits}
 use Rattle.state.specs.Highest.{put, maxVals, vars, start}
-use Rattle.minimum.specs.Min.{IsMin, IsMaxMin, minTo}
+use Rattle.minimum.specs.Min.{IsMaxMin, minTo}
 
 -- η gives every term but the minimum variables what θ gives it
 pub record Under (s : State) (os : List ℕ) (θ η : ℕ → ℕ) : Type 0 where
   pub fits : Fits s os η
   pub same : (t : ℕ) → t < firstMinimum → η t ≡ θ t
 
--- x is the lowest leaf of d over the minimum variables, everything else being as θ has it
-abbrev pub Lowest : State → List ℕ → Tree Atomic → (ℕ → ℕ) → ℕ → Type 0
-Lowest s os d θ x = IsMin (Under s os θ) (value s d) x
-
 -- x is the highest of these, with the objects os for the parameters: the lowest leaf at one valuation, and at no valuation is the lowest leaf above x
 abbrev pub Number : State → List ℕ → Tree Atomic → ℕ → Type 0
 Number s os d x = IsMaxMin (Fits s os) (Under s os) (value s d) x
-
--- the same as the request has it: the highest of the lowest leaves that valuations have
-abbrev pub HighestLowest : State → List ℕ → Tree Atomic → ℕ → Type 0
-HighestLowest s os d x = IsMax {X = (ℕ → ℕ) × ℕ} (λ p. Fits s os (p .0) × Lowest s os d (p .0) (p .1)) (λ p. p .1) x
 
 -- the lowest of f over all choices of an object below n for each variable of the list; with no variable there is one choice
 unfoldable pub minVals : ℕ → List ℕ → (ℕ → ℕ) → ((ℕ → ℕ) → ℕ) → ℕ

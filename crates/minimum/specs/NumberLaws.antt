@@ -9,16 +9,16 @@ use lib.Dec.{ltb}
 use borrow.Author.Tests.{ltb-true, ltb-false, lt-ltb, le-ltb}
 use Rattle.label.specs.Limits.{firstVariable, firstMinimum}
 use Rattle.diagram.specs.Diagram.{Tree}
-use Rattle.state.specs.Max.{IsMax}
+use Rattle.state.specs.Inner.{IsMax}
 use Rattle.state.specs.MaxLaws.{max-one}
 use Rattle.state.specs.State.{Atomic, State, Good, value, Fits}
 use Rattle.state.specs.Terms.{Each, Terms}
 use Rattle.state.specs.ValueLaws.{by-low, Each-mono, Terms-mono, value-same}
 use Rattle.state.specs.Highest.{maxVals, vars, start, Bound}
 use Rattle.state.specs.HighestLaws.{vars-up, vars-in, start-fits}
-use Rattle.minimum.specs.Min.{Met}
+use Rattle.minimum.specs.Inner.{Met, Lowest, HighestLowest}
 use Rattle.minimum.specs.MinLaws.{max-min-one, max-min-by, max-min-scale}
-use Rattle.minimum.specs.Number.{Under, Lowest, Number, HighestLowest, minVals, below, from, maximums, minimums, number}
+use Rattle.minimum.specs.Number.{Under, Number, minVals, below, from, maximums, minimums, number}
 use Rattle.minimum.specs.ReachLaws.{Reach, maxVals-reach, minVals-reach, reach-fits, reach-under, overlay, overlay-kept, overlay-in, overlay-reach}
 
 -- ===== The number computed =====

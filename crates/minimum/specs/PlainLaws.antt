@@ -18,7 +18,8 @@ use Rattle.diagram.specs.Variables.{occurs, minimums as minimumsOf, isPlain}
 use Rattle.state.specs.State.{Atomic, atomOf, meaning, State, value}
 use Rattle.state.specs.Terms.{Each, args, Terms}
 use Rattle.state.specs.ValueLaws.{by-low, Terms-mono, value-same}
-use Rattle.state.specs.Highest.{Highest, maxVals, insert, varsOf, varsIn, vars, start, highest}
+use Rattle.state.specs.Inner.{Highest}
+use Rattle.state.specs.Highest.{maxVals, insert, varsOf, varsIn, vars, start, highest}
 use Rattle.minimum.specs.MinLaws.{max-min}
 use Rattle.minimum.specs.Number.{Under, Number, minVals, below, from, maximums, minimums, number}
 use Rattle.minimum.specs.Operations.{Plain}

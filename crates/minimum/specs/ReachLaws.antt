@@ -5,7 +5,7 @@ use Prim.Native.Nat.{ℕ, _≤_, _<_}
 use native.Mathlib.Omega.{arith}
 use native.Mathlib.Nat.{le-refl, le-trans}
 use Rattle.label.specs.Limits.{firstVariable, firstMinimum}
-use Rattle.state.specs.Max.{IsMax}
+use Rattle.state.specs.Inner.{IsMax}
 use Rattle.state.specs.MaxLaws.{maxTo-is}
 use Rattle.state.specs.State.{State, Fits}
 use Rattle.state.specs.Terms.{Each}

@@ -15,9 +15,8 @@ use Rattle.state.specs.Terms.{Terms, rename}
 use Rattle.state.specs.ValueLaws.{low-lt, low-ge, by-low, Terms-mono, value-same, rename-value, fits-after}
 use Rattle.state.specs.Highest.{vars}
 use Rattle.state.specs.HighestLaws.{vars-in}
-use Rattle.minimum.specs.Min.{Met}
+use Rattle.minimum.specs.Inner.{Met, SameKind, KindByKind}
 use Rattle.minimum.specs.Number.{Under, Number}
-use Rattle.minimum.specs.Operations.{SameKind, KindByKind}
 use Rattle.minimum.specs.NumberLaws.{number-by, split, split-low, split-high, split-under}
 
 -- the variable of the list that ρ turns into t

@@ -1,15 +1,11 @@
 -- A model in lent words (document 01, sections 'Text' and 'Backup'): its numbers, its listings one after another, and a table of where they stand.
-use mathlib.Core.Path.{_≡_}
-use mathlib.Core.Bool.{true}
 use mathlib.Core.List.{List}
-use Prim.Native.Nat.{ℕ, _+_, _*_, _-_, _≤_, _<_}
-use lib.ListN.{length, getD, take, drop}
-use Rattle.label.specs.Limits.{predicateCount}
-use Rattle.diagram.specs.Words.{isListing}
+use Prim.Native.Nat.{ℕ, _+_, _*_}
+use lib.ListN.{getD, take, drop}
 use Rattle.diagram.specs.Listing.{diagramOf}
-use Rattle.regression.specs.RegressCall.{truthsOf, areListings}
+use Rattle.regression.specs.RegressCall.{truthsOf}
 use Rattle.names.specs.Many.{many}
-use Rattle.mdp.specs.Model.{Variant, Action, Model, GoodModel, mostActions, mostVariants}
+use Rattle.mdp.specs.Model.{Variant, Action, Model}
 use Rattle.model.specs.declared.Head.{Head}
 
 -- all model listings together have 2,048 rows
@@ -73,24 +69,3 @@ modelOf ar listings table h = record {
   reward = diagramOf (rewardWords listings h);
   actions = many (actionAt listings table) (h .actions);
 }
-
--- ===== What code on such words needs of them =====
-
--- the variant at the place i: its weight and truth diagrams are listings, within the words
-pub record LaidVariant (ar listings table : List ℕ) (i : ℕ) : Type 0 where
-  pub inside : getD table i 0 + getD table (i + 1) 0 ≤ length listings
-  pub weight : isListing ar (weightWords listings table i) ≡ true
-  pub truths : areListings ar listings (spansAt table i) 1 (predicateCount - 1) ≡ true
-
-pub record LaidAction (ar listings table : List ℕ) (a : ℕ) : Type 0 where
-  pub few : variantsOf table a ≤ mostVariants
-  pub variants : (v : ℕ) → v < variantsOf table a → LaidVariant ar listings table (variantPlace a v)
-
--- a model laid out in words, as reading leaves it
-pub record Laid (ar listings table : List ℕ) (h : Head) : Type 0 where
-  pub room : tableWords ≤ length table
-  pub few : h .actions ≤ mostActions
-  pub inside : h .«reward_start» + h .«reward_words» ≤ length listings
-  pub reward : isListing ar (rewardWords listings h) ≡ true
-  pub actions : (a : ℕ) → a < h .actions → LaidAction ar listings table a
-  pub good : GoodModel (modelOf ar listings table h)

@@ -11,3 +11,4 @@
 -- The rest of Layout (LaidVariant, LaidAction, Laid: a model laid out as reading leaves it) has inner contracts.
 
 pub mod Layout
+pub mod Inner

@@ -11,8 +11,8 @@ use Rattle.diagram.specs.Listing.{diagramOf}
 use Rattle.state.specs.ValueLaws.{by-low}
 use Rattle.model.specs.declared.Head.{Head}
 use Rattle.model.specs.Layout.{part, listingWords, actionWords, variantPlace, variantAt, variantsOf, actionAt, rewardWords, modelOf}
-use Rattle.model_entry.specs.Building.{modelWith, SpannedAction, Spanned, Canonical, ListedVariant, Listed, Building, withActions, rewarded, newAction}
-use Rattle.model_entry.specs.Starts.{KeepsStarts}
+use Rattle.model_entry.specs.Inner.{modelWith, withActions, rewarded, KeepsStarts}
+use Rattle.model_entry.specs.Building.{SpannedAction, Spanned, Canonical, ListedVariant, Listed, Building, newAction}
 use Rattle.model_entry.specs.Adding.{moreActions, rewardHead}
 use Rattle.model_entry.specs.Adding.{ActionRoom, ActionAdded, RowsRoom, RewardAdded}
 use Rattle.model_entry.specs.WordLaws.{Same, actionOf, actionUse, paste-before, paste-there, action-same, spanned-action, canonical-on, listed-variant}

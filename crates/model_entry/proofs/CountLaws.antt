@@ -5,7 +5,8 @@ use Prim.Native.Nat.{ℕ, suc, _+_, _*_, _≤_, _<_}
 use native.Mathlib.Omega.{arith}
 use Rattle.mdp.specs.Model.{mostVariants}
 use Rattle.model.specs.Layout.{variantsOf}
-use Rattle.model_entry.specs.Building.{variantsBefore, FewVariants}
+use Rattle.model_entry.specs.Inner.{FewVariants}
+use Rattle.model_entry.specs.Building.{variantsBefore}
 use Rattle.model_entry.specs.NameLaws.{before-few}
 
 -- n variants of the first i actions

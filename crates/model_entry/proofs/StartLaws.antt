@@ -8,7 +8,8 @@ use Rattle.label.specs.Limits.{predicateCount}
 use Rattle.model.specs.declared.Head.{Head}
 use Rattle.model.specs.Layout.{variantWords, variantPlace, variantsOf}
 use Rattle.model_entry.specs.Building.{truthPlace}
-use Rattle.model_entry.specs.Starts.{Slot, reward, weight, truth, startsIn, HasListing, KeepsStarts}
+use Rattle.model_entry.specs.Inner.{HasListing, KeepsStarts}
+use Rattle.model_entry.specs.Starts.{Slot, reward, weight, truth, startsIn}
 use Rattle.model_entry.specs.Adding.{rewardHead}
 use Rattle.model_entry.specs.WordLaws.{Same}
 

@@ -23,8 +23,9 @@ use Rattle.mdp.specs.Model.{Variant, Action, mostVariants}
 use Rattle.model.specs.declared.Head.{Head}
 use Rattle.model.specs.Layout.{part, variantWords, actionWords, variantPlace, weightWords, spansAt, variantAt, variantsOf, actionAt, modelOf}
 use Rattle.session.specs.ModelLines.{lastVariant, lastTruths, withTruthAt, truthsNow, truthsOfLast, isSome}
-use Rattle.model_entry.specs.Building.{modelWith, Inside, truthPlace, SpannedVariant, SpannedAction, Canonical, ListedVariant, Listed, withActions}
-use Rattle.model_entry.specs.Starts.{Slot, reward, weight, truth, startsIn, HasListing, KeepsStarts}
+use Rattle.model_entry.specs.Inner.{modelWith, withActions, HasListing, KeepsStarts}
+use Rattle.model_entry.specs.Building.{Inside, truthPlace, SpannedVariant, SpannedAction, Canonical, ListedVariant, Listed}
+use Rattle.model_entry.specs.Starts.{Slot, reward, weight, truth, startsIn}
 use Rattle.model_entry.specs.Adding.{RowsRoom, TruthRoom}
 use Rattle.model_entry.specs.Adding.{HasTruth, TruthAdded, lastPlace, TruthPlaced, moreWords}
 use Rattle.model_entry.specs.WordLaws.{Same, variantOf, actionOf, actionUse, part-under, truth-none, truth-here, truth-same, truths-over, span-same, action-same, variant-same}

@@ -13,7 +13,8 @@ use Rattle.mdp.specs.Model.{Variant, Action, mostVariants}
 use Rattle.model.specs.declared.Head.{Head}
 use Rattle.model.specs.Layout.{part, spanWords, variantWords, actionWords, variantPlace, variantAt, variantsOf, actionAt, modelOf}
 use Rattle.session.specs.ModelLines.{addVariant}
-use Rattle.model_entry.specs.Building.{modelWith, truthPlace, SpannedVariant, SpannedAction, Canonical, ListedVariant, Listed, withActions, newVariant}
+use Rattle.model_entry.specs.Inner.{modelWith, withActions}
+use Rattle.model_entry.specs.Building.{truthPlace, SpannedVariant, SpannedAction, Canonical, ListedVariant, Listed, newVariant}
 use Rattle.model_entry.specs.Adding.{RowsRoom, VariantRoom}
 use Rattle.model_entry.specs.Adding.{VariantAdded, Cleared, newPlace, Opened, moreWords}
 use Rattle.model_entry.specs.WordLaws.{Same, variantOf, actionOf, actionUse, part-under, truth-none, action-same, variant-same, spanned-variant, spanned-action, canonical-on, listed-variant}

@@ -10,8 +10,8 @@ use Rattle.mdp.specs.Model.{mostActions, mostVariants}
 use Rattle.model.specs.declared.Head.{Head}
 use Rattle.model.specs.Layout.{listingWords, actionWords, variantWords, variantPlace, variantsOf, modelOf}
 use Rattle.session.specs.ModelLines.{addVariant, lastVariant, withTruthAt, truthsNow, isSome}
-use Rattle.model_entry.specs.Building.{rewarded, withActions, newAction, newVariant, truthPlace, Spanned, Canonical, Building}
-use Rattle.model_entry.specs.Starts.{KeepsStarts}
+use Rattle.model_entry.specs.Inner.{rewarded, withActions, KeepsStarts}
+use Rattle.model_entry.specs.Building.{newAction, newVariant, truthPlace, Spanned, Canonical, Building}
 
 -- ===== The head afterwards =====
 

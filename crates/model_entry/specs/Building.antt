@@ -1,48 +1,15 @@
 -- A model in lent words while its lines are read (document 01, section 'Text').
 use mathlib.Core.Path.{_≡_}
 use mathlib.Core.List.{List, []}
-use Prim.Native.Nat.{ℕ, zero, suc, _+_, _*_, _-_, _≤_, _<_}
+use Prim.Native.Nat.{ℕ, zero, suc, _+_, _*_, _≤_, _<_}
 use lib.ListN.{length, getD}
 use Rattle.label.specs.Limits.{predicateCount}
 use Rattle.diagram.specs.Diagram.{Diagram}
 use Rattle.diagram.specs.Listing.{listing, diagramOf}
-use Rattle.mdp.specs.Model.{Variant, Action, Model, mostActions, mostVariants}
+use Rattle.mdp.specs.Model.{Variant, Action, mostActions, mostVariants}
 use Rattle.model.specs.declared.Head.{Head}
 use Rattle.model.specs.Layout.{listingWords, tableWords, variantPlace, weightWords, variantsOf, rewardWords}
 use Rattle.session.specs.ModelLines.{noTruths}
-
--- the model that a head's numbers, a reward and actions are
-abbrev pub modelWith : List ℕ → Head → Diagram → List Action → Model
-modelWith ar h d l = record {
-  arities = ar;
-  total = h .total;
-  numerator = h .numerator;
-  denominator = h .denominator;
-  reward = d;
-  actions = l;
-}
-
--- the model with another reward
-abbrev pub rewarded : Model → Diagram → Model
-rewarded m d = record {
-  arities = m .arities;
-  total = m .total;
-  numerator = m .numerator;
-  denominator = m .denominator;
-  reward = d;
-  actions = m .actions;
-}
-
--- the model with other actions
-abbrev pub withActions : Model → List Action → Model
-withActions m l = record {
-  arities = m .arities;
-  total = m .total;
-  numerator = m .numerator;
-  denominator = m .denominator;
-  reward = m .reward;
-  actions = l;
-}
 
 -- an action of c parameters that has no variant yet
 abbrev pub newAction : ℕ → Action
@@ -74,12 +41,6 @@ pub record SpannedAction (table : List ℕ) (words a : ℕ) : Type 0 where
 abbrev pub variantsBefore : List ℕ → ℕ → ℕ
 variantsBefore table zero = 0
 variantsBefore table (suc a) = variantsBefore table a + variantsOf table a
-
--- the first a actions in the table have few variants each
-pub record FewVariants (table : List ℕ) (a : ℕ) : Type 0 where
-  pub room : tableWords ≤ length table
-  pub few : a ≤ mostActions
-  pub each : (i : ℕ) → i < a → variantsOf table i ≤ mostVariants
 
 -- counts within their limits, and every listing within the words in use
 pub record Spanned (table : List ℕ) (h : Head) : Type 0 where

@@ -19,8 +19,10 @@ use Rattle.regression.specs.RegressCall.{truthCount, truthWords, areListings}
 use Rattle.regression.specs.RegressCallLaws.{listings-none, listings-cons, truths-some}
 use Rattle.mdp.specs.Model.{Every, GoodVariant, GoodAction, GoodModel}
 use Rattle.model.specs.declared.Head.{Head}
-use Rattle.model.specs.Layout.{part, tableWords, actionWords, variantPlace, weightWords, spansAt, variantAt, variantsOf, actionAt, rewardWords, modelOf, LaidVariant, LaidAction, Laid}
-use Rattle.model_entry.specs.Building.{modelWith, truthPlace, Canonical, Building, SpannedVariant, ListedVariant}
+use Rattle.model.specs.Inner.{LaidVariant, LaidAction, Laid}
+use Rattle.model.specs.Layout.{part, tableWords, actionWords, variantPlace, weightWords, spansAt, variantAt, variantsOf, actionAt, rewardWords, modelOf}
+use Rattle.model_entry.specs.Inner.{modelWith}
+use Rattle.model_entry.specs.Building.{truthPlace, Canonical, Building, SpannedVariant, ListedVariant}
 use Rattle.model_entry.specs.WordLaws.{span-count, span-start, canonical-on}
 
 -- ===== The first =====

@@ -19,7 +19,8 @@ use Rattle.model.specs.Layout.{variantPlace, variantAt, variantsOf, actionAt}
 use Rattle.session.specs.Session.{Names}
 use Rattle.session.specs.Good.{variantCount}
 use Rattle.session.specs.Replaying.{variantNamesFrom, variantNames}
-use Rattle.model_entry.specs.Building.{variantsBefore, FewVariants, Spanned}
+use Rattle.model_entry.specs.Inner.{FewVariants}
+use Rattle.model_entry.specs.Building.{variantsBefore, Spanned}
 
 -- ===== How many =====
 

@@ -4,7 +4,8 @@ use mathlib.Core.List.{List}
 use Prim.Native.Nat.{ℕ}
 use native.Mathlib.Omega.{arith}
 use Rattle.model.specs.declared.Head.{Head}
-use Rattle.model_entry.specs.Starts.{Slot, reward, weight, truth, startsIn, HasListing, KeepsStarts}
+use Rattle.model_entry.specs.Inner.{HasListing, KeepsStarts}
+use Rattle.model_entry.specs.Starts.{Slot, reward, weight, truth, startsIn}
 
 module _ (table : List ℕ) (h h′ : Head) (a : h′ .actions ≡ h .actions) (b : h′ .«reward_start» ≡ h .«reward_start») (c : h′ .«reward_words» ≡ h .«reward_words») where
   begins-same : (s : Slot) → startsIn table h′ s ≡ startsIn table h s

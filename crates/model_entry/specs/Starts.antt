@@ -1,16 +1,14 @@
 -- Where the listings of a model begin in its words, and where behind one line more (document 01, section 'Text'): what a session does not tell of them.
-use mathlib.Core.Path.{_≡_}
 use mathlib.Core.Bool.{Bool, true, not, _&&_, cond}
 use mathlib.Core.List.{List}
-use Prim.Native.Nat.{ℕ, _+_, _*_, _<_}
+use Prim.Native.Nat.{ℕ, _*_}
 use lib.ListN.{length, getD}
 use lib.Dec.{leb, ltb}
-use Rattle.label.specs.Limits.{predicateCount}
 use Rattle.diagram.specs.Diagram.{leaf}
 use Rattle.regression.specs.Regression.{Truths}
 use Rattle.mdp.specs.Model.{Variant, Action}
 use Rattle.model.specs.declared.Head.{Head}
-use Rattle.model.specs.Layout.{variantPlace, variantsOf}
+use Rattle.model.specs.Layout.{variantPlace}
 use Rattle.session.specs.Session.{Session}
 use Rattle.session.specs.ModelLines.{isSome}
 use Rattle.model_entry.specs.Building.{newAction, newVariant, truthPlace}
@@ -54,18 +52,3 @@ startsIn table h (truth a v p) = getD table (truthPlace (variantPlace a v) p) 0
 unfoldable pub startsBehind : Session → Session → SlotStarts → SlotStarts
 unfolding hasListing
 startsBehind σ σ′ at s = cond (hasListing σ′ s && not (hasListing σ s)) (σ .rows * 3) (at s)
-
--- ===== In words: what the functions of lines promise =====
-
--- the words have one
-abbrev pub HasListing : List ℕ → Head → Slot → Type 0
-HasListing table h reward = h .«reward_words» ≡ 0 → ⊥
-HasListing table h (weight a v) = (a < h .actions) × (v < variantsOf table a)
-HasListing table h (truth a v p) =
-    (0 < p) × (p < predicateCount) × (a < h .actions) × (v < variantsOf table a) × (getD table (truthPlace (variantPlace a v) p + 1) 0 ≡ 0 → ⊥)
-
--- a new one begins behind the words in use, the others stay; without a reward its number stays too
-pub record KeepsStarts (table : List ℕ) (h : Head) (table′ : List ℕ) (h′ : Head) : Type 0 where
-  pub stays : (s : Slot) → HasListing table h s → startsIn table′ h′ s ≡ startsIn table h s
-  pub new : (s : Slot) → HasListing table′ h′ s → (HasListing table h s → ⊥) → startsIn table′ h′ s ≡ h .words
-  pub none : h′ .«reward_words» ≡ 0 → h′ .«reward_start» ≡ h .«reward_start»

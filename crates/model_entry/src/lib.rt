@@ -6,7 +6,8 @@ ghost use lib.ListN.{length};
 ghost use lib.Seq.{paste};
 ghost use Rattle.mdp.specs.Model.{mostVariants};
 ghost use Rattle.model.specs.Layout.{spanWords, actionWords, variantsOf};
-ghost use Rattle.model_entry.specs.Building.{variantsBefore, FewVariants};
+ghost use Rattle.model_entry.specs.Inner.{FewVariants};
+ghost use Rattle.model_entry.specs.Building.{variantsBefore};
 ghost use Rattle.model_entry.specs.Adding.{ActionRoom, ActionAdded, RowsRoom, RewardAdded, Cleared, Opened, VariantRoom, VariantAdded, TruthRoom, TruthPlaced, HasTruth, TruthAdded};
 
 // Words of a variant in the table for its truth diagrams: two for each predicate.

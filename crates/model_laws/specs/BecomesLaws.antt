@@ -27,7 +27,7 @@ use Rattle.events.specs.Events.{diagramEvents, wordsEvents}
 use Rattle.reading.specs.declared.Binding.the-variants.{Only}
 use Rattle.reading.specs.Reading.{arguments, reading}
 use Rattle.reading.specs.Head.{headNumber, headArguments}
-use Rattle.reading.specs.Tree.{Named, maximumReach}
+use Rattle.reading.specs.Inner.{Named, maximumReach}
 use Rattle.reading.specs.GoodLaws.{named-below}
 use Rattle.build.specs.Machine.{mostTests, built}
 use Rattle.mdp.specs.Model.{Variant, Action, GoodTruthDiagram, GoodVariant}

@@ -25,7 +25,8 @@ use Rattle.regression.specs.StepLaws.{eval-most, most-eval, eval-test, ordered-
 use Rattle.regression.specs.Result.{AtMost, asked, stepped}
 use Rattle.regression.specs.Parameters.{Allowed, Within}
 use Rattle.reduction.specs.ClosedLaws.{within-closed}
-use Rattle.reading.specs.Tree.{Reading, depth, opsOf, Reach, Named, GoodTest, GoodReading}
+use Rattle.reading.specs.Inner.{depth, Reach, Named, GoodTest, GoodReading}
+use Rattle.reading.specs.Tree.{Reading, opsOf}
 use Rattle.reading.specs.Tree.Reading.{branch as conditional, number}
 use Rattle.build.specs.Written.{diagramFor}
 use Rattle.build.specs.Machine.{mostTests, built, builtClosed}

@@ -12,7 +12,7 @@ use Rattle.refusal.specs.Outcome.{ok}
 use Rattle.events.specs.Events.{diagramEvents}
 use Rattle.reading.specs.declared.Binding.{Binding}
 use Rattle.reading.specs.Reading.{Met, Written, reading}
-use Rattle.reading.specs.Tree.{reach, NamesFit}
+use Rattle.reading.specs.Inner.{reach, NamesFit}
 use Rattle.reading.specs.GoodLaws.{reading-sound}
 use Rattle.build.specs.Machine.{mostTests, built, builtClosed}
 use Rattle.session.specs.Session.{Names}

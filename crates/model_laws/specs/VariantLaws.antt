@@ -23,7 +23,7 @@ use Rattle.events.specs.declared.Event.{Event}
 use Rattle.events.specs.Events.{diagramEvents}
 use Rattle.reading.specs.declared.Binding.the-variants.{None}
 use Rattle.reading.specs.Reading.{arguments, reading}
-use Rattle.reading.specs.Tree.{Named, maximumReach}
+use Rattle.reading.specs.Inner.{Named, maximumReach}
 use Rattle.reading.specs.GoodLaws.{named-below}
 use Rattle.build.specs.Machine.{mostTests, built}
 use Rattle.mdp.specs.Model.{Variant, Action, GoodVariant, mostVariants}

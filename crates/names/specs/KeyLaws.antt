@@ -14,7 +14,8 @@ use Rattle.basics.specs.Members.{clash}
 use Rattle.words.specs.declared.Key.{Key}
 use Rattle.names.specs.Many.{many}
 use Rattle.names.specs.ManyLaws.{length-many, getD-many, many-ext, many-more}
-use Rattle.names.specs.Keys.{sameKey, keyAt, keysAt, placeOf, isAmong, putKey}
+use Rattle.names.specs.Inner.{putKey}
+use Rattle.names.specs.Keys.{sameKey, keyAt, keysAt, placeOf, isAmong}
 
 pub key-ext : (x y : Key) → x .a ≡ y .a → x .b ≡ y .b → x ≡ y
 key-ext x y p q = λ i. record { a = p i; b = q i }

@@ -4,7 +4,7 @@ use Prim.Native.Nat.{ℕ, suc, _+_, _*_}
 use mathlib.Core.List.{List, [], _∷_}
 use mathlib.Core.Bool.{Bool, cond, _&&_}
 use lib.Dec.{eqb, ltb}
-use lib.ListN.{length, getD, set}
+use lib.ListN.{length, getD}
 use Rattle.words.specs.declared.Key.{Key}
 use Rattle.names.specs.Many.{many}
 
@@ -27,7 +27,3 @@ placeOf k (x ∷ xs) = cond (sameKey x k) 0 (suc (placeOf k xs))
 -- whether k is one of the keys
 unfoldable pub isAmong : Key → List Key → Bool
 isAmong k xs = ltb (placeOf k xs) (length xs)
-
--- the words with the key k written at the word i
-unfoldable pub putKey : List ℕ → ℕ → Key → List ℕ
-putKey s i k = set (set s i (k .a)) (i + 1) (k .b)

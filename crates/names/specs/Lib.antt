@@ -16,4 +16,5 @@ pub mod Many
 pub mod ManyLaws
 pub mod Layout
 pub mod Keys
+pub mod Inner
 pub mod KeyLaws

@@ -3,7 +3,8 @@ use words::Key;
 ghost use mathlib.Core.Path.{_≡_};
 ghost use Prim.Native.Nat.{_+_, _*_, _≤_};
 ghost use lib.ListN.{length};
-ghost use Rattle.names.specs.Keys.{sameKey, keyAt, keysAt, placeOf, putKey};
+ghost use Rattle.names.specs.Inner.{putKey};
+ghost use Rattle.names.specs.Keys.{sameKey, keyAt, keysAt, placeOf};
 
 // Where the tables of a session's names begin: the constants' keys; the predicates' keys by number, that of equality unused, and so
 // the first declared predicate's; the actions' keys; the keys of the last action's parameters; those of the variants of all

@@ -25,7 +25,8 @@ use Rattle.regression.specs.Result.{AtMost}
 use Rattle.state.specs.Max.{tuples}
 use Rattle.state.specs.Max.{those}
 use Rattle.state.specs.Max.{gather}
-use Rattle.reduction.specs.Claims.{Sorted, Lower, differs, onwards}
+use Rattle.reduction.specs.Inner.{Sorted}
+use Rattle.reduction.specs.Claims.{Lower, differs, onwards}
 use Rattle.reduction.specs.ListLaws.{gather-in, in-gather, those-in, in-those, upTo-in, in-upTo}
 use Rattle.reduction.specs.CombinationLaws.{tuples-in, in-tuples}
 use Rattle.reduction.specs.OrderLaws.{sorted-append, tuples-order}

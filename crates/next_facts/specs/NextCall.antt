@@ -10,7 +10,8 @@ use Rattle.state.specs.State.{State}
 use Rattle.state.specs.Lent.{factWords, factCount, stateOf, isState, allBelow, mostFacts}
 use Rattle.mdp.specs.Model.{GoodVariant}
 use Rattle.mdp.specs.Bellman.{stateAfter}
-use Rattle.model.specs.Layout.{variantWords, variantAt, LaidVariant}
+use Rattle.model.specs.Inner.{LaidVariant}
+use Rattle.model.specs.Layout.{variantWords, variantAt}
 use Rattle.next_facts.specs.declared.Facts.{Facts}
 use Rattle.next_facts.specs.declared.Facts.the-variants.{Rows, Many}
 

@@ -18,7 +18,8 @@ use Rattle.diagram.specs.Validity.{tree}
 use Rattle.diagram.specs.Shown.{same-eqb}
 use Rattle.paths.specs.Paths.{mostPaths, Path, stepBefore, paths, literals, isEdge, through}
 use Rattle.paths.specs.PathLaws.{paths-leaf, paths-branch, path-short, path-high, path-low, path-in, codes-length, codes-step}
-use Rattle.paths.specs.Routes.{codes, stepOn, pathAt, labelEnd, Rows, Counted, At, Routed, Leaves, Sided, Entered}
+use Rattle.paths.specs.Inner.{codes, labelEnd, Rows, Counted, At, Routed, Leaves, Sided, Entered}
+use Rattle.paths.specs.Routes.{stepOn, pathAt}
 use Rattle.paths.specs.Walking.{Stepped, Rest, RestOver, Coming}
 use Rattle.paths.specs.declared.Here.{Here}
 

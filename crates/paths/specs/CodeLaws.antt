@@ -6,7 +6,7 @@ use Prim.Native.Nat.{ℕ, _+_, _*_, _/_, _%_}
 use native.Mathlib.Omega.{arith}
 use lib.Dec.{eqb}
 use Rattle.paths.specs.Paths.{Literal, Path, literals}
-use Rattle.paths.specs.Routes.{bit, codeOf, codes, literalAt, literalsIn}
+use Rattle.paths.specs.Inner.{bit, codeOf, codes, literalAt, literalsIn}
 
 -- its half is the label, and it is odd where the test holds
 pub half : (l : ℕ) (b : Bool) → (l * 2 + bit b) / 2 ≡ l

@@ -19,6 +19,7 @@
 
 pub mod Paths
 pub mod Routes
+pub mod Inner
 -- what the code's parts keep
 pub mod Walking
 -- laws

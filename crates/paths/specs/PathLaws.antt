@@ -26,7 +26,8 @@ use Rattle.diagram.specs.RowDiagrams.{branch-row}
 use Rattle.diagram.specs.DiagramOfListing.{valid-rows, shown-rows, rows-are}
 use Rattle.diagram.specs.ListingValid.{listing-is-valid}
 use Rattle.paths.specs.Paths.{Step, Path, stepBefore, paths, literals, literalOf}
-use Rattle.paths.specs.Routes.{bit, codeOf, codes, InRange, stepOn, pathAt, labelEnd, Rows}
+use Rattle.paths.specs.Inner.{bit, codeOf, codes, InRange, labelEnd, Rows}
+use Rattle.paths.specs.Routes.{stepOn, pathAt}
 
 -- members of a list under a map
 pub mem-map : {A B : Type 0} (f : A → B) (l : List A) (a : A) → List·Memᴰ a l → List·Memᴰ (f a) (map f l)

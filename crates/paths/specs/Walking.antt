@@ -7,7 +7,8 @@ use lib.ListN.{length, getD, take, drop}
 use Rattle.diagram.specs.Words.{labelAt}
 use Rattle.diagram.specs.Validity.{tree}
 use Rattle.paths.specs.Paths.{stepBefore, through}
-use Rattle.paths.specs.Routes.{bit, codes, pathAt, labelEnd, At}
+use Rattle.paths.specs.Inner.{bit, codes, labelEnd, At}
+use Rattle.paths.specs.Routes.{pathAt}
 use Rattle.paths.specs.declared.Here.{Here}
 
 -- one step on from row i on path k

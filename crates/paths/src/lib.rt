@@ -7,7 +7,8 @@ ghost use Rattle.label.specs.Limits.{leafMark};
 ghost use Rattle.diagram.specs.Words.{labelAt};
 ghost use Rattle.diagram.specs.Validity.{tree};
 ghost use Rattle.paths.specs.Paths.{mostPaths, paths};
-ghost use Rattle.paths.specs.Routes.{Rows, Counted, At, Routed, Leaves, pathAt, Sided, Entered};
+ghost use Rattle.paths.specs.Inner.{Rows, Counted, At, Routed, Leaves, Sided, Entered};
+ghost use Rattle.paths.specs.Routes.{pathAt};
 ghost use Rattle.paths.specs.Walking.{Stepped};
 
 // Paths of a diagram at most, over which a cut is refused.

@@ -10,7 +10,7 @@ use lib.Dec.{eqb}
 use borrow.Author.Tests.{eq-eqb, ne-eqb}
 use lib.Seq.{getD-set-same, getD-set-other}
 use Rattle.basics.specs.Tests.{Cmp, below, equal, above, cmp}
-use Rattle.label.specs.Order.{Compared}
+use Rattle.label.specs.Inner.{Compared}
 use Rattle.label.specs.OrderLaws.{compared-less, compared-not}
 use Rattle.label.specs.Limits.{leafMark}
 use Rattle.table.specs.Chains.{prev}

@@ -36,15 +36,16 @@ use Rattle.mdp.specs.Backup.{backup}
 use Rattle.mdp.specs.Runs.{Held as Value, leaves, cutOutcome, begin}
 use Rattle.mdp.specs.StepLaws.{cut-done}
 use Rattle.model.specs.declared.Head.{Head}
-use Rattle.model.specs.Layout.{rewardWords, modelOf, Laid}
+use Rattle.model.specs.Inner.{Laid}
+use Rattle.model.specs.Layout.{rewardWords, modelOf}
 use Rattle.steps.specs.declared.Step.the-variants.{Rows}
 use Rattle.planner.specs.declared.Backed.{Backed}
 use Rattle.planner.specs.declared.Backed.the-variants.{Done, Refused}
-use Rattle.planner.specs.declared.Held.{Held}
+use Rattle.planner.specs.declared.RunNumbers.{RunNumbers}
 use Rattle.steps.specs.Steps.{stepAs, Result, Wrote}
 use Rattle.planner.specs.Backed.{Powered, backedAs, BackedUp}
 use Rattle.planner.specs.Tasks.{Standing}
-use Rattle.planner.specs.Run.{Holds, Room, Callable, ReplaceTask, Takeable, Taken}
+use Rattle.planner.specs.Inner.{Holds, Room, Callable, ReplaceTask, Takeable, Taken}
 use Rattle.steps.specs.GivenLaws.{wrote-given, result-few, fold-there, fold-given}
 
 -- two held values are equal by their parts
@@ -53,11 +54,11 @@ same-held p q = λ i. record { diagram = p i; steps = q i }
 
 -- ===== A backup =====
 
-module _ {ar : List ℕ} {m : Model} {h : Held} {value : List ℕ} (c : Callable ar m h value) where
+module _ {ar : List ℕ} {m : Model} {h : RunNumbers} {value : List ℕ} (c : Callable ar m h value) where
   pub callable-standing : {work : List ℕ} → Room value work → Standing ar value (h .rows) work
   callable-standing r = record { listing = c .listing; within = c .within; inside = c .room; value-room = r .value-room; work-room = r .work-room }
 
-pub callable-powered : {ar listings table : List ℕ} {n : Head} → Laid ar listings table n → {h : Held} {value : List ℕ}
+pub callable-powered : {ar listings table : List ℕ} {n : Head} → Laid ar listings table n → {h : RunNumbers} {value : List ℕ}
     → Callable ar (modelOf ar listings table n) h value → Powered n (h .steps) (h .power)
 unfolding modelOf scale
 callable-powered t c = record { steps = c .steps; is = c .power }
@@ -83,7 +84,7 @@ module _ {ar : List ℕ} {m : Model} {k : ℕ} {d : Diagram} {r : Backed} {value
 
 -- ===== A value replaced by what a call gives, k staying =====
 
-module _ {ar : List ℕ} {h : Held} {value work : List ℕ} (t : ReplaceTask ar h value work) where
+module _ {ar : List ℕ} {h : RunNumbers} {value work : List ℕ} (t : ReplaceTask ar h value work) where
   pub replace-long : h .rows * 3 ≡ length (take (h .rows * 3) value)
   replace-long = sym (length-take-le (h .rows * 3) value (t .room))
 
@@ -129,7 +130,7 @@ cut-rows ar d k e n h = go (isPlain ar d) (ltb mostPaths (length (paths d))) (ch
         let t : isTrueEdge e ≡ b = sym (ap isTrueEdge s) ∙ edge-side b in
         ap (λ (x : ℕ). length (rows (cutDiagram ar d x (isTrueEdge e)))) (sym p) ∙ ap (λ (x : Bool). length (rows (cutDiagram ar d j x))) t ∙ l
 
-module _ {ar : List ℕ} {h : Held} {value work : List ℕ} (t : ReplaceTask ar h value work) where
+module _ {ar : List ℕ} {h : RunNumbers} {value work : List ℕ} (t : ReplaceTask ar h value work) where
   pub cut-able : (n : ℕ) → resultWords ≤ n → Cuttable ar (take (h .rows * 3) value) (replicate n 0) work
   cut-able n k = record { listing = t .listing; out-room = omega (arith, length-replicate {A = ℕ} n 0); work-room = t .work-room }
 

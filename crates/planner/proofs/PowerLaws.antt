@@ -21,7 +21,8 @@ use Rattle.mdp.specs.Model.{Model, scale}
 use Rattle.mdp.specs.Backup.{highestScale, mostSteps, scaleEnds, backup, rowOfCalls}
 use Rattle.mdp.specs.StepLaws.{backup-ends, backup-row, on-scale}
 use Rattle.model.specs.declared.Head.{Head}
-use Rattle.model.specs.Layout.{modelOf, Laid}
+use Rattle.model.specs.Inner.{Laid}
+use Rattle.model.specs.Layout.{modelOf}
 use Rattle.steps.specs.declared.Step.{Step}
 use Rattle.steps.specs.declared.Step.the-variants.{Rows, Refused as Stopped}
 use Rattle.planner.specs.declared.Power.{Power}

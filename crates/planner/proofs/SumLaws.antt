@@ -18,7 +18,8 @@ use Rattle.mdp.specs.Backup.{combined, variantsSum, actionsBest}
 use Rattle.mdp.specs.StepLaws.{sum-none, best-none}
 use Rattle.mdp.specs.BackupLaws.{truths-good}
 use Rattle.model.specs.declared.Head.{Head}
-use Rattle.model.specs.Layout.{actionWords, variantPlace, variantAt, variantsOf, actionAt, modelOf, Laid}
+use Rattle.model.specs.Inner.{Laid}
+use Rattle.model.specs.Layout.{actionWords, variantPlace, variantAt, variantsOf, actionAt, modelOf}
 use Rattle.steps.specs.declared.Step.{Step}
 use Rattle.steps.specs.declared.Step.the-variants.{Rows, Refused}
 use Rattle.steps.specs.Steps.{Given, Begun, BufferListing}

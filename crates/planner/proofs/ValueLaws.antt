@@ -16,7 +16,8 @@ use Rattle.apply.specs.declared.Names.the-variants.{Apart, Shared}
 use Rattle.regression.specs.RegressCall.{writtenAs}
 use Rattle.mdp.specs.Backup.{combined, actionsBest, rowOfCalls}
 use Rattle.model.specs.declared.Head.{Head}
-use Rattle.model.specs.Layout.{rewardWords, modelOf, Laid}
+use Rattle.model.specs.Inner.{Laid}
+use Rattle.model.specs.Layout.{rewardWords, modelOf}
 use Rattle.steps.specs.declared.Step.{Step}
 use Rattle.steps.specs.declared.Step.the-variants.{Rows, Refused}
 use Rattle.steps.specs.Steps.{stepAs, Given, Wrote, Operands}

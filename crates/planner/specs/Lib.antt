@@ -3,4 +3,5 @@ pub mod Backed
 pub mod Parts
 pub mod PartLaws
 pub mod Run
+pub mod Inner
 pub mod Tasks

@@ -15,7 +15,8 @@ use Rattle.regression.specs.declared.Freed.{Freed}
 use Rattle.regression.specs.declared.Freed.the-variants.{Done as FreedDone, Refused as NotFreed}
 use Rattle.regression.specs.Parameters.{Within, GoodTruths}
 use Rattle.mdp.specs.Model.{GoodAction}
-use Rattle.model.specs.Layout.{variantWords, actionWords, variantAt, actionAt, rewardWords, LaidVariant, LaidAction}
+use Rattle.model.specs.Inner.{LaidVariant, LaidAction}
+use Rattle.model.specs.Layout.{variantWords, actionWords, variantAt, actionAt, rewardWords}
 use Rattle.model.specs.declared.Head.{Head}
 use Rattle.steps.specs.declared.Step.{Step}
 use Rattle.steps.specs.declared.Step.the-variants.{Rows, Refused}

@@ -15,8 +15,9 @@ ghost use Rattle.apply.specs.declared.Operation.the-variants.{Product};
 ghost use Rattle.apply.specs.declared.Names.the-variants.{Shared};
 ghost use Rattle.regression.specs.Regression.{regressed};
 ghost use Rattle.mdp.specs.Backup.{combined, variantsSum, actionsBest, rowOfCalls};
-ghost use Rattle.model.specs.Layout.{variantAt, actionAt, rewardWords, modelOf, Laid};
-ghost use Rattle.planner.specs.Run.{Takeable, Taken};
+ghost use Rattle.model.specs.Inner.{Laid};
+ghost use Rattle.model.specs.Layout.{variantAt, actionAt, rewardWords, modelOf};
+ghost use Rattle.planner.specs.Inner.{Takeable, Taken};
 ghost use Rattle.planner.specs.Parts.{variantProduct, variantAdded, freedUp, actionValue, actionTried};
 ghost use Rattle.planner.specs.Backed.{scaleOf, powerAs, Numbers, Powered, BackedUp, backedStep};
 ghost use Rattle.steps.specs.Steps.{BufferListing, Given, Wrote};
@@ -404,7 +405,7 @@ pub fn backup(
 }
 
 // What a run holds beside the value's listing: its rows, k and S^k.
-pub struct Held {
+pub struct RunNumbers {
     pub rows: usize,
     pub steps: u64,
     pub power: u64,

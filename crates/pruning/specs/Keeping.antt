@@ -7,7 +7,7 @@ use Rattle.diagram.specs.Sizes.{mostRows, spaceWords}
 use Rattle.diagram.specs.Diagram.{leaf}
 use Rattle.diagram.specs.Words.{rowCount}
 use Rattle.diagram.specs.Validity.{tree}
-use Rattle.paths.specs.Routes.{Rows}
+use Rattle.paths.specs.Inner.{Rows}
 use Rattle.store.specs.declared.Formed.{Formed}
 use Rattle.store.specs.Space.{Holds}
 use Rattle.apart.specs.Results.{Stands}

@@ -15,7 +15,7 @@ use Rattle.diagram.specs.Listing.{listing, diagramOf}
 use Rattle.diagram.specs.Validity.{tree}
 use Rattle.diagram.specs.Variables.{closed}
 use Rattle.paths.specs.Paths.{paths, mostPaths}
-use Rattle.paths.specs.Routes.{bit}
+use Rattle.paths.specs.Inner.{bit}
 use Rattle.cutting.specs.Cut.{reduced, written}
 use Rattle.reduction.specs.Reduction.{keeping}
 

@@ -14,7 +14,7 @@ use Rattle.diagram.specs.Words.{labelAt, highAt, lowAt, rowCount}
 use Rattle.diagram.specs.Validity.{tree}
 use Rattle.diagram.specs.Shown.{Shown, same-eqb}
 use Rattle.apply.specs.Apply.{node}
-use Rattle.paths.specs.Routes.{bit}
+use Rattle.paths.specs.Inner.{bit}
 use Rattle.cutting.specs.Cut.{reduced}
 use Rattle.reduction.specs.Reduction.{keeping}
 use Rattle.pruning.specs.Pruning.{keptOf, Agrees, edgeAt, stays, staysBelow, staysIn}

@@ -16,7 +16,8 @@ use Rattle.names.specs.KeyLaws.{length-keys}
 use Rattle.events.specs.declared.Event.{Event}
 use Rattle.events.specs.declared.Event.the-variants as E
 use Rattle.events.specs.declared.Next.{Next}
-use Rattle.events.specs.Front.{isEnd, nextAt, eventsOf}
+use Rattle.events.specs.Inner.{nextAt}
+use Rattle.events.specs.Front.{isEnd, eventsOf}
 use Rattle.events.specs.FrontLaws.{events-short}
 use Rattle.reading.specs.declared.Binding.the-variants.{Any}
 use Rattle.reading.specs.declared.Kind.{Kind}

@@ -11,13 +11,15 @@ use Rattle.refusal.specs.Outcome.{Outcome, ok, refused}
 use Rattle.words.specs.declared.Key.{Key}
 use Rattle.names.specs.Many.{many}
 use Rattle.basics.specs.Members.{clash}
-use Rattle.names.specs.Keys.{keysAt, placeOf, isAmong, putKey}
+use Rattle.names.specs.Inner.{putKey}
+use Rattle.names.specs.Keys.{keysAt, placeOf, isAmong}
 use Rattle.names.specs.KeyLaws.{among-at, among-none, keys-more, length-put}
 use Rattle.names.specs.Layout.{declaredAt}
 use Rattle.events.specs.declared.Event.{Event}
 use Rattle.events.specs.declared.Event.the-variants as E
 use Rattle.events.specs.declared.Next.{Next}
-use Rattle.events.specs.Front.{isEnd, nextAt, eventsOf}
+use Rattle.events.specs.Inner.{nextAt}
+use Rattle.events.specs.Front.{isEnd, eventsOf}
 use Rattle.events.specs.FrontLaws.{next-end, next-more}
 use Rattle.reading.specs.declared.Opening.{Opening}
 use Rattle.reading.specs.declared.Opening.the-variants as O

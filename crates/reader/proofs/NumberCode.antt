@@ -18,7 +18,8 @@ use Rattle.words.specs.declared.Key.{Key}
 use Rattle.words.specs.declared.Took.{Took}
 use Rattle.words.specs.declared.Took.the-variants as T
 use Rattle.names.specs.ManyLaws.{getD-many}
-use Rattle.names.specs.Keys.{keyAt, keysAt, putKey}
+use Rattle.names.specs.Inner.{putKey}
+use Rattle.names.specs.Keys.{keyAt, keysAt}
 use Rattle.names.specs.KeyLaws.{key-ext, length-keys, keys-more, length-put}
 use Rattle.reading.specs.Numbering.{takes, isNumbered, numberOf}
 use Rattle.reader.specs.declared.Numbered.{Numbered}

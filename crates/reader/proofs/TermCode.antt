@@ -11,7 +11,8 @@ use Rattle.refusal.specs.Outcome.{ok}
 use Rattle.label.specs.Limits.{constantCount, parameterCount, firstVariable, variableCount, firstMinimum}
 use Rattle.label.specs.Terms.{constantTerm, parameterTerm, variableTerm, minimumTerm}
 use Rattle.words.specs.declared.Key.{Key}
-use Rattle.names.specs.Keys.{keysAt, placeOf, putKey}
+use Rattle.names.specs.Inner.{putKey}
+use Rattle.names.specs.Keys.{keysAt, placeOf}
 use Rattle.names.specs.KeyLaws.{length-keys, among-at, among-none, keys-more, length-put}
 use Rattle.names.specs.Layout.{constantsAt, parametersAt}
 use Rattle.events.proofs.Event.{the-type}

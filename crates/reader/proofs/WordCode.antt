@@ -20,10 +20,11 @@ use Rattle.names.specs.Layout.{constantsAt, parametersAt}
 use Rattle.events.specs.declared.Event.{Event}
 use Rattle.events.specs.declared.Event.the-variants as E
 use Rattle.events.specs.declared.Next.{Next}
-use Rattle.events.specs.Front.{isEnd, nextAt, eventsOf}
+use Rattle.events.specs.Inner.{nextAt}
+use Rattle.events.specs.Front.{isEnd, eventsOf}
 use Rattle.events.specs.FrontLaws.{next-end, next-more, next-moves, events-short}
 use Rattle.reading.specs.Operations.{Op}
-use Rattle.reading.specs.Reading.{Names, Met, State, more, begun, termWord, numberWord, atomWord, constantNumber, parameterNumber}
+use Rattle.reading.specs.Reading.{Environment, Met, State, more, begun, termWord, numberWord, atomWord, constantNumber, parameterNumber}
 use Rattle.reading.specs.Reading.{variableNumber, minimumNumber, arguments, metAt, word, with-pass, readWord, readWords, finished, begin, reading}
 use Rattle.reader.specs.declared.Scope.{Scope}
 use Rattle.reader.specs.declared.Known.{Known}
@@ -137,11 +138,11 @@ pub moves : (line : List ℕ) (place : ℕ) (n : Next) → n ≡ nextAt line pla
 moves line place n q h =
     subst (λ (x : Next). (x .place ≤ length line) × (isEnd (x .event) ≡ false → place < x .place)) (sym q) (next-moves line place h)
 
-words-none : (σ : Names) (es : List Event) (s : State) → es ≡ [] → readWords σ es s ≡ ok s
+words-none : (σ : Environment) (es : List Event) (s : State) → es ≡ [] → readWords σ es s ≡ ok s
 unfolding readWords
 words-none σ es s e = rw e
 
-words-more : (σ : Names) (es fs : List Event) (e : Event) (s : State) → es ≡ e ∷ fs → readWords σ es s ≡ andThen (readWord σ s e) (readWords σ fs)
+words-more : (σ : Environment) (es fs : List Event) (e : Event) (s : State) → es ≡ e ∷ fs → readWords σ es s ≡ andThen (readWord σ s e) (readWords σ fs)
 unfolding readWords
 words-more σ es fs e s q = rw q
 
@@ -196,7 +197,7 @@ module _ {line : List ℕ} {place₀ : ℕ} {ns ar vs₀ os₀ : List ℕ} {s : 
           stepped : readWords (namesOf ns ar s) (eventsOf (drop place₀ line)) (begin (metIn vs₀ known))
               ≡ andThen (with-pass (metIn vs′ count′) (judgedPass os′ x)) (readWords (namesOf ns ar s) (eventsOf (drop (n .place) line)))
           stepped =
-              let σ : Names = namesOf ns ar s in
+              let σ : Environment = namesOf ns ar s in
               let fs : List Event = eventsOf (drop (n .place) line) in
               l .still
               ∙ words-more σ (eventsOf (drop place line)) fs (n .event) (stateOf vs count os p) (events-next line place n q (sym t ∙ f))

@@ -16,7 +16,7 @@ use Rattle.events.specs.Front.{eventsOf}
 use Rattle.names.specs.Keys.{keysAt}
 use Rattle.names.specs.Layout.{constantsAt, declaredAt, parametersAt, nameWords}
 use Rattle.reading.specs.Head.{Head}
-use Rattle.reading.specs.Reading.{Names, Met, Pass, State, Written}
+use Rattle.reading.specs.Reading.{Environment, Met, Pass, State, Written}
 use Rattle.reader.specs.declared.Scope.{Scope}
 use Rattle.reader.specs.declared.Known.{Known}
 use Rattle.reader.specs.declared.Progress.{Progress}
@@ -51,7 +51,7 @@ abbrev pub argumentCount : ℕ → Known
 argumentCount n = record { variables = n; minimums = 0 }
 
 -- the names of the tables ns, as many as the scope counts
-abbrev pub namesOf : List ℕ → List ℕ → Scope → Names
+abbrev pub namesOf : List ℕ → List ℕ → Scope → Environment
 namesOf ns ar s = record {
   constants = keysAt ns constantsAt (s .constants);
   predicates = keysAt ns declaredAt (s .predicates);

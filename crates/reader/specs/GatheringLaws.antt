@@ -15,7 +15,7 @@ use Rattle.words.specs.Keys.{nameOf}
 use Rattle.words.specs.declared.Key.{Key}
 use Rattle.events.specs.declared.Event.{Event}
 use Rattle.reading.specs.declared.Binding.the-variants.{Any}
-use Rattle.reading.specs.Reading.{Names, reading}
+use Rattle.reading.specs.Reading.{Environment, reading}
 use Rattle.reading.specs.NumberingLaws.{reading-many}
 use Rattle.reading.specs.NumberingLaws.Over.{variables, minimums}
 use Rattle.reading.specs.Occurrences.{variableKeys, minimumKeys}
@@ -95,7 +95,7 @@ kept-alike ks = go (allNumbered ks)
 
 -- ===== A reward's words =====
 
-module _ (σ : Names) (any : σ .binding ≡ Any) where
+module _ (σ : Environment) (any : σ .binding ≡ Any) where
   -- the variables that the code keeps come to the same
   pub kept-reading : (es : List Event) → reading σ es (keptMet es) ≡ rewardReading σ es
   unfolding rewardReading

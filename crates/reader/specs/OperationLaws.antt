@@ -14,7 +14,8 @@ use Rattle.names.specs.ManyLaws.{length-many, getD-many}
 use Rattle.reading.specs.AllLaws.{all-at, all-append}
 use Rattle.reading.specs.Operations.{Op}
 use Rattle.reading.specs.Operations.Op.{leafOp, ask, step}
-use Rattle.reading.specs.Tree.{Reading, opsOf, GoodTest, GoodReading}
+use Rattle.reading.specs.Inner.{GoodTest, GoodReading}
+use Rattle.reading.specs.Tree.{Reading, opsOf}
 use Rattle.reading.specs.Tree.Reading.{number, branch}
 use Rattle.reader.specs.OperationWords.{opOf, opAt, opsIn}
 

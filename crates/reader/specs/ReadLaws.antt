@@ -10,8 +10,9 @@ use Rattle.names.specs.KeyLaws.{length-keys}
 use Rattle.names.specs.Layout.{constantsAt, declaredAt, parametersAt}
 use Rattle.events.specs.declared.Event.{Event}
 use Rattle.events.specs.Events.{diagramEvents}
-use Rattle.reading.specs.Reading.{Names, Met, Written, reading}
-use Rattle.reading.specs.Tree.{Reading, opsOf, depth, Named, reach, GoodReading, NamesFit}
+use Rattle.reading.specs.Reading.{Environment, Met, Written, reading}
+use Rattle.reading.specs.Inner.{depth, Named, reach, GoodReading, NamesFit}
+use Rattle.reading.specs.Tree.{Reading, opsOf}
 use Rattle.reading.specs.GoodLaws.{reading-sound}
 use Rattle.reader.specs.declared.Scope.{Scope}
 use Rattle.reader.specs.declared.Known.{Known}
@@ -29,7 +30,7 @@ tables-fit ns ar s t = record {
 }
 
 -- n operations in the words os are those of a good diagram
-pub record Diagrammed (σ : Names) (vs : Met) (d : T.Diagram) (n : ℕ) (os : List ℕ) : Type 0 where
+pub record Diagrammed (σ : Environment) (vs : Met) (d : T.Diagram) (n : ℕ) (os : List ℕ) : Type 0 where
   pub tree : Reading
   pub operations : opsIn os n ≡ opsOf tree
   pub good : GoodReading (σ .arities) (Named (length (σ .parameters)) (reach (σ .binding) vs)) tree
@@ -37,7 +38,7 @@ pub record Diagrammed (σ : Names) (vs : Met) (d : T.Diagram) (n : ℕ) (os : Li
   pub values : (k : ℕ) → k < n → getD os (k * 2) 0 ≡ 0 → getD os (k * 2 + 1) 0 ≤ highestValue
   pub labels : (k : ℕ) → k < n → getD os (k * 2) 0 ≡ 1 → getD os (k * 2 + 1) 0 < leafMark
 
-module _ (σ : Names) (f : NamesFit σ) (d : T.Diagram) (es : List Event) (e : es ≡ diagramEvents d) (ks : Met) {vs os : List ℕ} where
+module _ (σ : Environment) (f : NamesFit σ) (d : T.Diagram) (es : List Event) (e : es ≡ diagramEvents d) (ks : Met) {vs os : List ℕ} where
   pub read-diagram : {n : ℕ} {m : Known} → Reads (reading σ es ks) (W.Done n m) vs os → Diagrammed σ ks d n os
   read-diagram {n} {m} g =
       let w : Written = record { met = metIn vs m; operations = opsIn os n } in

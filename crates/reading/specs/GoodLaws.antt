@@ -35,12 +35,12 @@ use Rattle.names.specs.Keys.{placeOf, isAmong}
 use Rattle.events.specs.Events.{diagramEvents}
 use Rattle.reading.specs.declared.Binding.{Binding}
 use Rattle.reading.specs.declared.Binding.the-variants.{Any, None, Only}
-use Rattle.reading.specs.Reading.{Names, constantNumber, parameterNumber, met, Met, lastVariable, numberIn}
+use Rattle.reading.specs.Reading.{Environment, constantNumber, parameterNumber, met, Met, lastVariable, numberIn}
 use Rattle.reading.specs.Reading.{variableNumber, minimumNumber, variableMet, minimumMet, Written, isWithin, reading}
 use Rattle.reading.specs.AllLaws.{all-at}
 use Rattle.reading.specs.OutcomeLaws.{apart, ok-one, chosen, passed, chained}
 use Rattle.reading.specs.Tree.{Reading, Result, having, resolveTerm, resolveTerms, testing, resolveAtom, branching, resolveDiagram}
-use Rattle.reading.specs.Tree.{writing, diagramReading, depth, Reach, Named, maximumReach, reach, GoodTest, GoodReading, NamesFit, Sound}
+use Rattle.reading.specs.Inner.{writing, diagramReading, depth, Reach, Named, maximumReach, reach, GoodTest, GoodReading, NamesFit, Sound}
 use Rattle.reading.specs.Tree.Reading.{branch}
 use Rattle.reading.specs.TreeLaws.{Resolving, terms-resolved, reading-diagram}
 
@@ -173,7 +173,7 @@ lowest-named c None m k t e = absurd (apart e)
 lowest-named c Only m k t e = absurd (apart e)
 
 -- every term of a line is one that may be named
-names-resolving : (σ : Names) → NamesFit σ → (vs : Met)
+names-resolving : (σ : Environment) → NamesFit σ → (vs : Met)
     → Resolving σ (Named (length (σ .parameters)) (reach (σ .binding) vs)) (λ us. reach (σ .binding) us ≡ reach (σ .binding) vs)
 names-resolving σ f vs = record { each = each }
   where
@@ -277,7 +277,7 @@ pub record Keeps {A : Type 0} (P : A → Type 0) (Q : Met → Type 0) (g : Resul
   pub value-good : P (g .value)
   pub met-still : Q (g .met)
 
-module _ (σ : Names) (P : ℕ → Type 0) (Q : Met → Type 0) (fits : NamesFit σ) (w : (t : ℕ) → P t → isTerm t ≡ true) (s : Resolving σ P Q) where
+module _ (σ : Environment) (P : ℕ → Type 0) (Q : Met → Type 0) (fits : NamesFit σ) (w : (t : ℕ) → P t → isTerm t ≡ true) (s : Resolving σ P Q) where
   tested : (q : ℕ) (ts : List T.Term) (vs : Met) (g : Result Test) → Q vs → ((us : List ℕ) → length us ≡ length ts → T.All P us → GoodTest (σ .arities) P (testOf (atomFrom q us)))
       → andThen (resolveTerms σ vs ts) (testing q) ≡ ok g → Keeps (GoodTest (σ .arities) P) Q g
   tested q ts vs g k f e =
@@ -324,7 +324,7 @@ module _ (σ : Names) (P : ℕ → Type 0) (Q : Met → Type 0) (fits : NamesFit
       })
 
 -- the words of a line with a diagram, not refused, come to the operations of a good diagram
-pub reading-sound : (σ : Names) → NamesFit σ → (d : T.Diagram) (vs : Met) (w : Written) → reading σ (diagramEvents d) vs ≡ ok w → Sound σ vs d w
+pub reading-sound : (σ : Environment) → NamesFit σ → (d : T.Diagram) (vs : Met) (w : Written) → reading σ (diagramEvents d) vs ≡ ok w → Sound σ vs d w
 unfolding diagramReading
 reading-sound σ f d vs w e =
     let c = chained (resolveDiagram σ vs d) writing w (sym (reading-diagram σ d vs) ∙ e) in

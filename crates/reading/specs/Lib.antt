@@ -2,7 +2,7 @@
 --
 -- Definitions: what words stand for
 --   Op == an operation: form a leaf, ask a test, make the row step
---   Names, Binding == the names that stand for something on the line; which variables: any, none, or only the arguments
+--   Environment, Binding == the names that stand for something on the line; which variables: any, none, or only the arguments
 --   constantNumber, parameterNumber == a declared constant, or 2; a parameter of this action, or 6
 --   met == the variables of one kind met so far, in the order of their first occurrence; one more than the limit is kept
 --   Met, arguments == the variables met, kind by kind: ?name and %name; the arguments of a truth diagram, none for a weight
@@ -55,6 +55,7 @@ pub mod Reading
 pub mod Head
 pub mod Tree
 pub mod Occurrences
+pub mod Inner
 pub mod Numbering
 -- laws
 pub mod OutcomeLaws

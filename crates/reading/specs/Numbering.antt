@@ -13,7 +13,7 @@ use Rattle.words.specs.declared.Key.{Key}
 use Rattle.words.specs.declared.Took.{Took}
 use Rattle.words.specs.declared.Took.the-variants.{Bytes, Refused}
 use Rattle.events.specs.declared.Event.{Event}
-use Rattle.reading.specs.Reading.{Names, Met, Written, reading}
+use Rattle.reading.specs.Reading.{Environment, Met, Written, reading}
 use Rattle.reading.specs.Occurrences.{variableKeys, minimumKeys}
 
 -- the byte v
@@ -59,5 +59,5 @@ abbrev pub metFirst : List Event → Met
 metFirst es = record { variables = variablesFirst (variableKeys es); minimums = variablesFirst (minimumKeys es) }
 
 -- the words of a reward: the pass, begun with these, numbers a variable by its place among them, and any other one by first occurrence
-unfoldable pub rewardReading : Names → List Event → Outcome Written
+unfoldable pub rewardReading : Environment → List Event → Outcome Written
 rewardReading σ es = reading σ es (metFirst es)

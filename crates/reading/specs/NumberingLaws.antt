@@ -27,7 +27,7 @@ use Rattle.events.specs.declared.Event.the-variants as E
 use Rattle.reading.specs.declared.Binding.{Binding}
 use Rattle.reading.specs.declared.Binding.the-variants.{Any, None, Only}
 use Rattle.reading.specs.Operations.Op.{ask}
-use Rattle.reading.specs.Reading.{Names, met, Met, metAt, Pass, more, asked, beginning, begun, filling, termWord}
+use Rattle.reading.specs.Reading.{Environment, met, Met, metAt, Pass, more, asked, beginning, begun, filling, termWord}
 use Rattle.reading.specs.Reading.{numberWord, atomWord, constantNumber, parameterNumber, variableNumber, minimumNumber, word, State, with-pass, readWords, isWithin, finished, begin, reading}
 use Rattle.reading.specs.Numbering.{letterV, takes, isNumbered}
 use Rattle.reading.specs.OutcomeLaws.{Match}
@@ -125,7 +125,7 @@ over-refused m (minimums h) = rw (lt-leb (length (m .minimums)) minimumCount h) 
     go true = refl
     go false = refl
 
-module _ (σ : Names) (any : σ .binding ≡ Any) where
+module _ (σ : Environment) (any : σ .binding ≡ Any) where
   word-match : (us vs : Met) (p q : Pass) (e : Event) → Due p q → Match Due (word σ us p e) (word σ vs q e)
   unfolding word numberWord atomWord variableNumber minimumNumber
   word-match us vs p q (E.Name k) d = term-match p q _ _ d (match-same _ (constantNumber (σ .constants) k) (λ x. tt))

@@ -20,9 +20,9 @@ use Rattle.events.specs.declared.Event.the-variants as E
 use Rattle.reading.specs.declared.Binding.{Binding}
 use Rattle.reading.specs.declared.Binding.the-variants.{Any}
 use Rattle.reading.specs.Operations.{Op}
-use Rattle.reading.specs.Reading.{Names, met, Met, arguments, metAt, Pass, word}
+use Rattle.reading.specs.Reading.{Environment, met, Met, arguments, metAt, Pass, word}
 use Rattle.reading.specs.Reading.{State, with-pass, readWord, readWords, finished, begin, Written, written, reading}
-use Rattle.reading.specs.Occurrences.{occurringMet}
+use Rattle.reading.specs.Inner.{occurringMet}
 use Rattle.reading.specs.OutcomeLaws.{apart, chained}
 
 -- the pass keeps this many of a kind
@@ -83,7 +83,7 @@ passed-on m (ok p) s e =
     let z : _≡_ {A = State} (record { met = m; pass = p }) s = cc in ap (λ (x : State). x .met) z
 passed-on m (refused r) s e = absurd (apart e)
 
-words-met : (σ : Names) (es : List Event) (s t : State) → readWords σ es s ≡ ok t → t .met ≡ metBy (σ .binding) (s .met) es
+words-met : (σ : Environment) (es : List Event) (s t : State) → readWords σ es s ≡ ok t → t .met ≡ metBy (σ .binding) (s .met) es
 unfolding readWords
 words-met σ [] s t e = let z : s ≡ t = cc in ap (λ (x : State). x .met) (sym z)
 words-met σ (e ∷ es) s t p =
@@ -119,7 +119,7 @@ module _ (m : Met) (o : List Op) where
       go (no h) l = many-variables (omega arith)
 
 -- a reward's words without a fault: 8 by all of their variables, kind by kind, or all of them in their order
-pub reading-counts : (σ : Names) → σ .binding ≡ Any → (es : List Event) (s : State) → readWords σ es (begin (arguments [])) ≡ ok s
+pub reading-counts : (σ : Environment) → σ .binding ≡ Any → (es : List Event) (s : State) → readWords σ es (begin (arguments [])) ≡ ok s
     → reading σ es (arguments []) ≡ written (occurringMet (arguments []) es) (s .pass .operations)
 unfolding reading
 reading-counts σ b es s e =

@@ -1,15 +1,12 @@
 -- All variables of a line in the order of their first occurrence, kind by kind, however many (document 01, section 'Text'; document 02, L12).
-use mathlib.Core.Bool.{cond}
 use mathlib.Core.List.{List, [], _∷_, _++_}
 use Rattle.words.specs.declared.Key.{Key}
-use Rattle.names.specs.Keys.{isAmong}
 use Rattle.events.specs.declared.Event.{Event}
 use Rattle.events.specs.declared.Event.the-variants as E
 use Rattle.reading.specs.declared.Argument.{Argument}
 use Rattle.reading.specs.declared.Argument.the-variants as A
 use Rattle.reading.specs.declared.Kind.{Kind}
 use Rattle.reading.specs.declared.Kind.the-variants as K
-use Rattle.reading.specs.Reading.{Met}
 use Rattle.reading.specs.Head.{argumentOf}
 
 -- %name, or another word
@@ -44,12 +41,3 @@ variableKeys es = keysOf K.Maximum es
 
 abbrev pub minimumKeys : List Event → List Key
 minimumKeys es = keysOf K.Minimum es
-
--- each once, behind those of vs
-abbrev pub occurring : List Key → List Key → List Key
-occurring vs [] = vs
-occurring vs (k ∷ ks) = occurring (cond (isAmong k vs) vs (vs ++ (k ∷ []))) ks
-
--- of each kind
-abbrev pub occurringMet : Met → List Event → Met
-occurringMet m es = record { variables = occurring (m .variables) (variableKeys es); minimums = occurring (m .minimums) (minimumKeys es) }

@@ -22,7 +22,7 @@ use Rattle.reading.specs.Operations.Op.{leafOp, ask, step}
 
 -- the names that stand for something on the line. Predicates are numbered from 1 as declared; a reward has no parameters, a weight and a truth
 -- diagram have those of the action
-pub record Names : Type 0 where
+pub record Environment : Type 0 where
   pub constants : List Key
   pub predicates : List Key
   pub arities : List ℕ
@@ -114,7 +114,7 @@ unfoldable pub numberWord : Pass → ℕ → Outcome Pass
 numberWord p v = cond (leb v highestValue) (ok (more p (leafOp v))) (refused Range)
 
 -- the name of an atom with n terms behind it: a declared predicate, or 2; n its arity, or 3
-unfoldable pub atomWord : Names → Pass → Key → ℕ → Outcome Pass
+unfoldable pub atomWord : Environment → Pass → Key → ℕ → Outcome Pass
 atomWord σ p k n =
     cond (isAmong k (σ .predicates))
     (cond (eqb n (getD (σ .arities) (placeOf k (σ .predicates) + 1) 0)) (ok (begun p (placeOf k (σ .predicates) + 1) n)) (refused Arity))
@@ -142,7 +142,7 @@ metAt b m E.Step = m
 metAt b m E.End = m
 
 -- a word, judged with the variables m
-unfoldable pub word : Names → Met → Pass → Event → Outcome Pass
+unfoldable pub word : Environment → Met → Pass → Event → Outcome Pass
 word σ m p (E.Name k) = termWord p (constantNumber (σ .constants) k)
 word σ m p (E.Variable k) = termWord p (variableNumber (σ .binding) (m .variables) k)
 word σ m p (E.Parameter k) = termWord p (parameterNumber (σ .parameters) k)
@@ -162,11 +162,11 @@ abbrev pub with-pass : Met → Outcome Pass → Outcome State
 with-pass m (ok p) = ok (record { met = m; pass = p })
 with-pass m (refused r) = refused r
 
-abbrev pub readWord : Names → State → Event → Outcome State
+abbrev pub readWord : Environment → State → Event → Outcome State
 readWord σ s e = with-pass (metAt (σ .binding) (s .met) e) (word σ (metAt (σ .binding) (s .met) e) (s .pass) e)
 
 -- all words: the first fault decides
-unfoldable pub readWords : Names → List Event → State → Outcome State
+unfoldable pub readWords : Environment → List Event → State → Outcome State
 readWords σ [] s = ok s
 readWords σ (e ∷ es) s = andThen (readWord σ s e) (readWords σ es)
 
@@ -195,5 +195,5 @@ begin m = record {
 }
 
 -- the words es, the variables m known before them
-unfoldable pub reading : Names → List Event → Met → Outcome Written
+unfoldable pub reading : Environment → List Event → Met → Outcome Written
 reading σ es m = andThen (readWords σ es (begin m)) finished

@@ -26,10 +26,11 @@ use Rattle.events.specs.declared.Event.the-variants as E
 use Rattle.events.specs.Events.{termEvent, atomEvents, diagramEvents}
 use Rattle.reading.specs.Operations.{Op}
 use Rattle.reading.specs.Operations.Op.{leafOp, ask, step}
-use Rattle.reading.specs.Reading.{Names, Met, Pass, more, asked, beginning, begun, filling, termWord, numberWord}
+use Rattle.reading.specs.Reading.{Environment, Met, Pass, more, asked, beginning, begun, filling, termWord, numberWord}
 use Rattle.reading.specs.Reading.{atomWord, word, State, with-pass, readWord, readWords, written, finished, begin, reading}
 use Rattle.reading.specs.OutcomeLaws.{apart}
-use Rattle.reading.specs.Tree.{Reading, Result, having, resolveTerm, joined, resolveTerms, testing, resolveAtom, branching, resolveDiagram, opsOf, writing, diagramReading}
+use Rattle.reading.specs.Inner.{writing, diagramReading}
+use Rattle.reading.specs.Tree.{Reading, Result, having, resolveTerm, joined, resolveTerms, testing, resolveAtom, branching, resolveDiagram, opsOf}
 use Rattle.reading.specs.Tree.Reading.{number}
 
 abbrev at : Met → Pass → State
@@ -44,7 +45,7 @@ unfolding termWord
 due-word vs p (ok t) f = rw (ne-eqb (p .due) 0 f)
 due-word vs p (refused r) f = refl
 
-term-word : (σ : Names) (vs : Met) (p : Pass) (t : T.Term) → (p .due ≡ 0 → ⊥)
+term-word : (σ : Environment) (vs : Met) (p : Pass) (t : T.Term) → (p .due ≡ 0 → ⊥)
     → readWord σ (at vs p) (termEvent t) ≡ andThen (resolveTerm σ vs t) (λ g. ok (at (g .met) (asked (filling p (g .value)))))
 unfolding word
 term-word σ vs p (term plain n) f = due-word vs p _ f
@@ -61,7 +62,7 @@ asked-due : (p : Pass) → (p .due ≡ 0 → ⊥) → asked p ≡ p
 unfolding asked
 asked-due p f = rw (ne-eqb (p .due) 0 f)
 
-terms-words : (σ : Names) (ts : List T.Term) (es : List Event) (vs : Met) (p : Pass) → p .due ≡ length ts
+terms-words : (σ : Environment) (ts : List T.Term) (es : List Event) (vs : Met) (p : Pass) → p .due ≡ length ts
     → readWords σ (map termEvent ts ++ es) (at vs (asked p)) ≡ andThen (resolveTerms σ vs ts) (λ g. readWords σ es (at (g .met) (given p (g .value))))
 unfolding readWords
 terms-words σ [] es vs p e = refl
@@ -86,7 +87,7 @@ terms-words σ (t ∷ ts) es vs p e =
     go (refused r) ih = refl
 
 -- every resolved term has the property P, as long as the variables have the property Q, which they keep
-pub record Resolving (σ : Names) (P : ℕ → Type 0) (Q : Met → Type 0) : Type 0 where
+pub record Resolving (σ : Environment) (P : ℕ → Type 0) (Q : Met → Type 0) : Type 0 where
   pub each : (vs : Met) (t : T.Term) (g : Result ℕ) → Q vs → resolveTerm σ vs t ≡ ok g → P (g .value) × Q (g .met)
 
 -- a resolved list of n terms
@@ -95,7 +96,7 @@ pub record Terms (n : ℕ) (P : ℕ → Type 0) (Q : Met → Type 0) (g : Result
   pub all : T.All P (g .value)
   pub met-still : Q (g .met)
 
-module _ (σ : Names) (P : ℕ → Type 0) (Q : Met → Type 0) (w : Resolving σ P Q) where
+module _ (σ : Environment) (P : ℕ → Type 0) (Q : Met → Type 0) (w : Resolving σ P Q) where
   pub terms-resolved : (ts : List T.Term) (vs : Met) (g : Result (List ℕ)) → Q vs → resolveTerms σ vs ts ≡ ok g → Terms (length ts) P Q g
   terms-resolved [] vs g q e =
       let z : _≡_ {A = Result (List ℕ)} (record { value = []; met = vs }) g = cc in
@@ -117,7 +118,7 @@ module _ (σ : Names) (P : ℕ → Type 0) (Q : Met → Type 0) (w : Resolving �
       go (refused r) p ih e = absurd (apart e)
 
 -- so a resolved list has a number for each term
-count-resolved : (σ : Names) (ts : List T.Term) (vs : Met) (g : Result (List ℕ)) → resolveTerms σ vs ts ≡ ok g → length (g .value) ≡ length ts
+count-resolved : (σ : Environment) (ts : List T.Term) (vs : Met) (g : Result (List ℕ)) → resolveTerms σ vs ts ≡ ok g → length (g .value) ≡ length ts
 count-resolved σ ts vs g e =
     terms-resolved σ (λ u. Unit {0}) (λ us. Unit {0}) (record { each = λ us t k q z. (tt, tt) }) ts vs g tt e .count
 
@@ -133,11 +134,11 @@ given-operations (t ∷ us) p e =
 -- what follows a part of a line
 
 -- the words X go on with es: by the answer j for the part, whose operations o join those before
-abbrev Follows : {A : Type 0} → Names → Outcome State → List Event → List Op → (A → List Op) → Outcome (Result A) → Type 0
+abbrev Follows : {A : Type 0} → Environment → Outcome State → List Event → List Op → (A → List Op) → Outcome (Result A) → Type 0
 Follows σ X es before o (ok g) = (p : Pass) × (p .operations ≡ before ++ o (g .value)) × (X ≡ readWords σ es (at (g .met) p))
 Follows σ X es before o (refused r) = X ≡ refused r
 
-follows-on : {A : Type 0} (σ : Names) {X Y : Outcome State} (es : List Event) {b c : List Op} (o : A → List Op) (j : Outcome (Result A)) → X ≡ Y → b ≡ c
+follows-on : {A : Type 0} (σ : Environment) {X Y : Outcome State} (es : List Event) {b c : List Op} (o : A → List Op) (j : Outcome (Result A)) → X ≡ Y → b ≡ c
     → Follows σ Y es b o j → Follows σ X es c o j
 follows-on σ es o (ok g) e q f = (f .0, f .1 ∙ ap (λ l. l ++ o (g .value)) q, e ∙ f .2)
 follows-on σ es o (refused r) e q f = e ∙ f
@@ -145,7 +146,7 @@ follows-on σ es o (refused r) e q f = e ∙ f
 abbrev question : Test → List Op
 question t = ask t ∷ []
 
-terms-follow : (σ : Names) (q : ℕ) (ts : List T.Term) (es : List Event) (vs : Met) (p : Pass)
+terms-follow : (σ : Environment) (q : ℕ) (ts : List T.Term) (es : List Event) (vs : Met) (p : Pass)
     → Follows σ (readWords σ (map termEvent ts ++ es) (at vs (begun p q (length ts)))) es (p .operations) question (andThen (resolveTerms σ vs ts) (testing q))
 unfolding begun
 terms-follow σ q ts es vs p =
@@ -159,14 +160,14 @@ terms-follow σ q ts es vs p =
     go (refused r) l = refl
 
 -- an atom by its name's checks
-atom-checked : (σ : Names) (q : ℕ) (ts : List T.Term) (es : List Event) (vs : Met) (p : Pass) (b c : Bool)
+atom-checked : (σ : Environment) (q : ℕ) (ts : List T.Term) (es : List Event) (vs : Met) (p : Pass) (b c : Bool)
     → Follows σ (andThen (with-pass vs (cond b (cond c (ok (begun p q (length ts))) (refused Arity)) (refused Name))) (readWords σ (map termEvent ts ++ es)))
     es (p .operations) question (cond b (cond c (andThen (resolveTerms σ vs ts) (testing q)) (refused Arity)) (refused Name))
 atom-checked σ q ts es vs p true true = terms-follow σ q ts es vs p
 atom-checked σ q ts es vs p true false = refl
 atom-checked σ q ts es vs p false c = refl
 
-atom-follows : (σ : Names) (a : T.Atom) (es : List Event) (vs : Met) (p : Pass)
+atom-follows : (σ : Environment) (a : T.Atom) (es : List Event) (vs : Met) (p : Pass)
     → Follows σ (readWords σ (atomEvents a ++ es) (at vs p)) es (p .operations) question (resolveAtom σ vs a)
 unfolding readWords word atomWord
 atom-follows σ (equal a b) es vs p = terms-follow σ equality (a ∷ b ∷ []) es vs p
@@ -176,7 +177,7 @@ atom-follows σ (holds q ts) es vs p =
 
 -- diagrams
 
-number-follows : (σ : Names) (v : ℕ) (es : List Event) (vs : Met) (p : Pass) (b : Bool)
+number-follows : (σ : Environment) (v : ℕ) (es : List Event) (vs : Met) (p : Pass) (b : Bool)
     → Follows σ (andThen (with-pass vs (cond b (ok (more p (leafOp v))) (refused Range))) (readWords σ es)) es (p .operations) opsOf
     (cond b (ok (record { value = number v; met = vs })) (refused Range))
 number-follows σ v es vs p true = (more p (leafOp v), refl, refl)
@@ -188,7 +189,7 @@ step-joins before h f t = simp append-assoc
 events-join : (a d e es : List Event) → (a ++ (d ++ (e ++ E.Step ∷ []))) ++ es ≡ a ++ (d ++ (e ++ E.Step ∷ es))
 events-join a d e es = simp append-assoc
 
-module _ (σ : Names) (es : List Event) (t : Test) (before : List Op) where
+module _ (σ : Environment) (es : List Event) (t : Test) (before : List Op) where
   -- the false part is read: the step
   false-follows : (X : Outcome State) (h : Reading) (k : Outcome (Result Reading)) → Follows σ X (E.Step ∷ es) ((before ++ (ask t ∷ [])) ++ opsOf h) opsOf k
       → Follows σ X es before opsOf (andThen k (branching t h))
@@ -207,7 +208,7 @@ module _ (σ : Names) (es : List Event) (t : Test) (before : List Op) where
   true-follows X fs e (refused r) f ih = f
 
 -- the atom is read: the true part
-test-follows : (σ : Names) (es fs gs : List Event) (before : List Op) (X : Outcome State) (d e : Met → Outcome (Result Reading)) (j : Outcome (Result Test))
+test-follows : (σ : Environment) (es fs gs : List Event) (before : List Op) (X : Outcome State) (d e : Met → Outcome (Result Reading)) (j : Outcome (Result Test))
     → Follows σ X (fs ++ (gs ++ E.Step ∷ es)) before question j
     → ((g : Result Test) (q : Pass) → Follows σ (readWords σ (fs ++ (gs ++ E.Step ∷ es)) (at (g .met) q)) (gs ++ E.Step ∷ es) (q .operations) opsOf (d (g .met)))
     → ((h : Result Reading) (q : Pass) → Follows σ (readWords σ (gs ++ E.Step ∷ es) (at (h .met) q)) (E.Step ∷ es) (q .operations) opsOf (e (h .met)))
@@ -216,7 +217,7 @@ test-follows σ es fs gs before X d e (ok g) f ihd ihe =
     true-follows σ es (g .value) before X gs e (d (g .met)) (follows-on σ (gs ++ E.Step ∷ es) opsOf (d (g .met)) (f .2) (f .1) (ihd g (f .0))) ihe
 test-follows σ es fs gs before X d e (refused r) f ihd ihe = f
 
-diagram-follows : (σ : Names) (d : T.Diagram) (es : List Event) (vs : Met) (p : Pass)
+diagram-follows : (σ : Environment) (d : T.Diagram) (es : List Event) (vs : Met) (p : Pass)
     → Follows σ (readWords σ (diagramEvents d ++ es) (at vs p)) es (p .operations) opsOf (resolveDiagram σ vs d)
 unfolding readWords word numberWord
 diagram-follows σ (numeral n) es vs p = number-follows σ (valueOf n) es vs p (leb (valueOf n) highestValue)
@@ -230,7 +231,7 @@ diagram-follows σ (conditional a d e) es vs p =
     (λ h q. diagram-follows σ e (E.Step ∷ es) (h .met) q))
 
 -- the words of a diagram come to what its tree stands for
-pub reading-diagram : (σ : Names) (d : T.Diagram) (vs : Met) → reading σ (diagramEvents d) vs ≡ diagramReading σ d vs
+pub reading-diagram : (σ : Environment) (d : T.Diagram) (vs : Met) → reading σ (diagramEvents d) vs ≡ diagramReading σ d vs
 unfolding reading diagramReading readWords
 reading-diagram σ d vs =
     ap (λ l. andThen (readWords σ l (begin vs)) finished) (sym (append-nil (diagramEvents d)))

@@ -12,7 +12,8 @@ use borrow.Author.Tests.{ne-eqb, eqb-false}
 use Rattle.basics.specs.Tests.{Flag, isTrue, isFalse, flag, Cmp, cmp, below, equal, above}
 use Rattle.label.specs.Limits.{leafMark, termEnd, termBase}
 use Rattle.label.specs.Labels.{isLabel}
-use Rattle.label.specs.Renamings.{rank, mapOf}
+use Rattle.label.specs.Inner.{mapOf}
+use Rattle.label.specs.Renamings.{rank}
 use Rattle.label.specs.Callers.{TermMap}
 use Rattle.diagram.specs.Words.{labelAt}
 use Rattle.rename.specs.Maps.{usedVariables}

@@ -24,7 +24,8 @@ use Rattle.diagram.specs.Variables.{closed}
 use Rattle.diagram.specs.DiagramOfListing.{diagram-is}
 use Rattle.diagram.specs.ListingValid.{listing-is-valid}
 use Rattle.paths.specs.Paths.{paths, mostPaths, through}
-use Rattle.paths.specs.Routes.{pathAt, Routed}
+use Rattle.paths.specs.Inner.{Routed}
+use Rattle.paths.specs.Routes.{pathAt}
 use Rattle.cutting.specs.Cut.{reduced, written}
 use Rattle.reduction.specs.declared.Reduced.the-variants.{Done, Refused}
 use Rattle.reduction.specs.Combinations.{someOf, formed, winners}

@@ -26,7 +26,7 @@ use Rattle.diagram.specs.ListingValid.{listing-is-valid}
 use Rattle.rename.specs.VariableLaws.{variables-few}
 use Rattle.paths.specs.Paths.{paths, mostPaths}
 use Rattle.paths.specs.PathLaws.{listing-rows, paths-some}
-use Rattle.paths.specs.Routes.{Rows, Counted, Routed}
+use Rattle.paths.specs.Inner.{Rows, Counted, Routed}
 use Rattle.reduction.specs.declared.Reduced.{Reduced}
 use Rattle.reduction.specs.declared.Reduced.the-variants.{Refused}
 use Rattle.reduction.specs.Reduction.{hasKinds, mostRuns, runs, reduceAnswer, answerOf, bufferOf, hasParameter, reduceCall}

@@ -17,7 +17,8 @@ use Rattle.diagram.specs.Diagram.{Diagram}
 use Rattle.diagram.specs.Words.{labelAt, rowCount}
 use Rattle.diagram.specs.Validity.{tree}
 use Rattle.paths.specs.Paths.{through}
-use Rattle.paths.specs.Routes.{bit, At, Sided, pathAt}
+use Rattle.paths.specs.Inner.{bit, At, Sided}
+use Rattle.paths.specs.Routes.{pathAt}
 use Rattle.paths.proofs.RouteLaws.{routed-at}
 use Rattle.reduction.specs.Reduction.{isOn}
 use Rattle.pruning.specs.Pruning.{Agrees, edgeAt}

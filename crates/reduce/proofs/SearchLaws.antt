@@ -11,7 +11,8 @@ use lib.Dec.{eqb}
 use borrow.Author.Tests.{eq-eqb, ne-eqb, lt-ltb, le-ltb}
 use Rattle.diagram.specs.Diagram.{Diagram}
 use Rattle.diagram.specs.Validity.{tree}
-use Rattle.paths.specs.Routes.{pathAt, Leaves}
+use Rattle.paths.specs.Inner.{Leaves}
+use Rattle.paths.specs.Routes.{pathAt}
 use Rattle.reduction.specs.Combinations.{before}
 use Rattle.reduce.specs.Searching.{stacked, signOf, betterOf, Same}
 

@@ -13,7 +13,8 @@ use borrow.Author.Tests.{eq-eqb, ne-eqb}
 use Rattle.basics.specs.Tests.{Cmp, cmp, below, equal, above}
 use Rattle.basics.specs.Members.{mem}
 use Rattle.label.specs.Limits.{leafMark, termEnd, firstVariable, variableCount, firstMinimum}
-use Rattle.label.specs.Renamings.{rank, renamed, mapOf}
+use Rattle.label.specs.Inner.{mapOf}
+use Rattle.label.specs.Renamings.{rank, renamed}
 use Rattle.label.specs.Callers.{TermMap, Movable}
 use Rattle.diagram.specs.Words.{labelAt}
 use Rattle.rename.specs.Maps.{usedFrom, usedVariables, isUsed}

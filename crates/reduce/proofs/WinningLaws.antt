@@ -27,7 +27,7 @@ use Rattle.rename.specs.Maps.{usedVariables}
 use Rattle.rename.specs.MapLaws.{used-variables}
 use Rattle.rename.specs.VariableLaws.{variables-few}
 use Rattle.paths.specs.Paths.{paths}
-use Rattle.paths.specs.Routes.{Leaves}
+use Rattle.paths.specs.Inner.{Leaves}
 use Rattle.paths.specs.PathLaws.{rows-paths}
 use Rattle.state.specs.Max.{gather, tuples}
 use Rattle.reduction.specs.Combinations.{valuations, formed, winners}

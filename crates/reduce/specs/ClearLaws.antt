@@ -12,7 +12,8 @@ use Rattle.basics.specs.Tests.{Flag, isTrue, isFalse, flag, and-left, and-right
 use Rattle.basics.specs.Members.{mem, clash, append-one, append-other, append-cases}
 use Rattle.diagram.specs.Diagram.{Diagram, leaf, branch}
 use Rattle.paths.specs.Paths.{Path, stepBefore, paths, literals}
-use Rattle.paths.specs.Routes.{bit, stepOn}
+use Rattle.paths.specs.Inner.{bit}
+use Rattle.paths.specs.Routes.{stepOn}
 use Rattle.reduction.specs.Combinations.{someOf}
 use Rattle.reduce.specs.Searching.{signOf, pickKnown, Way, ways}
 use Rattle.reduce.specs.Facts.{codeOf, codesOf, clashing, isClear}

@@ -19,7 +19,7 @@ use Rattle.label.specs.declared.Atom.{Atom}
 use Rattle.diagram.specs.Words.{equalLists}
 use Rattle.diagram.specs.WordLaws.{lists-equal, equal-lists}
 use Rattle.paths.specs.Paths.{Literal}
-use Rattle.paths.specs.Routes.{bit}
+use Rattle.paths.specs.Inner.{bit}
 use Rattle.reduction.specs.Combinations.{objectOf, groundOf, opposed}
 use Rattle.reduce.specs.Facts.{factOf, codeOf, clashing}
 

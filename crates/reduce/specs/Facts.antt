@@ -7,7 +7,8 @@ use Rattle.label.specs.Renamings.{renamed}
 use Rattle.diagram.specs.Diagram.{Diagram}
 use Rattle.diagram.specs.Variables.{variables}
 use Rattle.paths.specs.Paths.{Literal, Path, literals}
-use Rattle.paths.specs.Routes.{bit, pathAt}
+use Rattle.paths.specs.Inner.{bit}
+use Rattle.paths.specs.Routes.{pathAt}
 use Rattle.reduction.specs.Combinations.{someOf, objectOf}
 
 -- the fact that the label l is under a valuation of the variables vs: the label with the objects in the place of the variables

@@ -22,7 +22,7 @@ use Rattle.paths.specs.PathLaws.{paths-are, mem-unmap}
 use Rattle.paths.specs.Routes.{pathAt}
 use Rattle.reduction.specs.Combinations.{someOf, valuations, objectOf, Ground, groundOf, opposed, consistent, grounds}
 use Rattle.reduction.specs.Combinations.{facts, isConsistent, choices, combinations, formedBy, formed, before, winner, winners}
-use Rattle.reduction.specs.Claims.{AtLeast}
+use Rattle.reduction.specs.Inner.{AtLeast}
 use Rattle.reduction.specs.ListLaws.{reverse-in}
 use Rattle.reduction.specs.CombinationLaws.{in-tuples, tuples-in, in-choices, at-least-trans, earlier, winner-in, winner-first}
 use Rattle.reduce.specs.Searching.{Way, ways, sumOf, betterOf, formedOn, winnersOn}

@@ -8,7 +8,8 @@ use Rattle.diagram.specs.Diagram.{Diagram}
 use Rattle.diagram.specs.Words.{rowCount}
 use Rattle.diagram.specs.Validity.{tree}
 use Rattle.paths.specs.Paths.{through}
-use Rattle.paths.specs.Routes.{pathAt, Routed}
+use Rattle.paths.specs.Inner.{Routed}
+use Rattle.paths.specs.Routes.{pathAt}
 use Rattle.reduction.specs.Reduction.{isOn}
 
 -- those of the first m paths that are marked, the last first

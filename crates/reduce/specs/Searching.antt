@@ -12,7 +12,7 @@ use Rattle.diagram.specs.Diagram.{Diagram, leaf, branch}
 use Rattle.diagram.specs.Words.{labelAt, highAt, lowAt}
 use Rattle.diagram.specs.Validity.{tree}
 use Rattle.paths.specs.Paths.{paths}
-use Rattle.paths.specs.Routes.{Routed, Leaves}
+use Rattle.paths.specs.Inner.{Routed, Leaves}
 use Rattle.state.specs.Max.{gather}
 use Rattle.reduction.specs.Combinations.{before}
 use Rattle.reduction.specs.Reduction.{mostFormed}

@@ -8,7 +8,8 @@ use lib.ListN.{length, getD}
 use lib.Dec.{eqb}
 use Rattle.label.specs.Limits.{leafMark, termEnd, predicateCount, variableCount}
 use Rattle.label.specs.Labels.{isLabel}
-use Rattle.label.specs.Renamings.{rank, renamed, mapOf}
+use Rattle.label.specs.Inner.{mapOf}
+use Rattle.label.specs.Renamings.{rank, renamed}
 use Rattle.diagram.specs.Sizes.{mostRows}
 use Rattle.diagram.specs.Words.{labelAt}
 use Rattle.rename.specs.Maps.{usedVariables}

@@ -14,7 +14,7 @@ use Rattle.reduction.specs.Combinations.{formed, winners}
 use Rattle.reduction.specs.declared.Reduced.{Reduced}
 use Rattle.reduction.specs.Reduction.{mostRuns, mostFormed, hasKinds, reduceAnswer, answerOf, bufferOf}
 use Rattle.diagram.specs.Sizes.{resultWords, spaceWords}
-use Rattle.paths.specs.Routes.{Routed}
+use Rattle.paths.specs.Inner.{Routed}
 use Rattle.reduce.specs.Searching.{isMarked}
 
 -- a listing with its paths and the marks of its terms, few enough valuations and paths (27), and a place for each path

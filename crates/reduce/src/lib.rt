@@ -16,7 +16,7 @@ ghost use Rattle.diagram.specs.Words.{labelAt, rowCount, isListing};
 ghost use Rattle.diagram.specs.Validity.{tree};
 ghost use Rattle.reduction.specs.Reduction.{isOn, mostRuns, hasKinds, hasParameter, reduceCall, answerOf, bufferOf};
 ghost use Rattle.diagram.specs.Listing.{diagramOf};
-ghost use Rattle.paths.specs.Routes.{bit, Leaves};
+ghost use Rattle.paths.specs.Inner.{bit, Leaves};
 ghost use Rattle.pruning.specs.Pruning.{Agrees};
 ghost use Rattle.reduce.specs.Routing.{winning, isOnPath, staysIn, Won, Edged};
 ghost use Rattle.reduce.specs.Searching.{stacked, signOf, betterOf, Searching, Standing, Reached, Visited, Forked};

@@ -27,7 +27,7 @@ use Rattle.regression.specs.Parameters.{Allowed, Within}
 use Rattle.minimum.specs.OccurLaws.{occur-terms}
 use Rattle.regression.specs.RegressCallLaws.{any-quiet, quiet-any}
 use Rattle.reduction.specs.Reduction.{reduceAnswer, hasParameter, reduceCall}
-use Rattle.reduction.specs.Claims.{Called}
+use Rattle.reduction.specs.Inner.{Called}
 use Rattle.reduction.specs.ReductionLaws.{reduce-keeps}
 
 -- ===== Parameters =====

@@ -8,7 +8,7 @@ use Rattle.label.specs.RenamingLaws.{numbering-low, numbering-variable, numberi
 use Rattle.diagram.specs.Diagram.{Diagram}
 use Rattle.diagram.specs.Listing.{Good as Listed}
 use Rattle.diagram.specs.Variables.{closedFrom, closed}
-use Rattle.rename.specs.Relabelling.{KindsFit}
+use Rattle.rename.specs.Inner.{KindsFit}
 use Rattle.rename.specs.ClosingLaws.{closed-fit}
 use Rattle.state.specs.State.{meaning, State}
 use Rattle.state.specs.ValueLaws.{by-low, Terms-map}

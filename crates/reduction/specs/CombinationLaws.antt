@@ -20,7 +20,7 @@ use Rattle.paths.specs.PathLaws.{mem-map, mem-unmap}
 use Rattle.paths.specs.Routes.{pathAt}
 use Rattle.state.specs.Max.{Tuple, none, more, those, tuples}
 use Rattle.reduction.specs.Combinations.{someOf, valuations, Ground, opposed, consistent, grounds, facts, isConsistent, choices, before, leastOf, winner}
-use Rattle.reduction.specs.Claims.{Once, AtLeast, Clash}
+use Rattle.reduction.specs.Inner.{Once, AtLeast, Clash}
 use Rattle.reduction.specs.ListLaws.{gather-in, in-gather, those-in, in-those, someOf-in, in-someOf, upTo-in, in-upTo, once-map, once-those, once-gather, once-upTo, gather-length}
 
 -- the first of a list, and the rest

@@ -19,7 +19,7 @@ use Rattle.cutting.specs.Cut.{reduced, cutAt}
 use Rattle.cutting.specs.Truth.{Follows}
 use Rattle.cutting.specs.ReduceLaws.{reduced-from, reduced-reduced, reduced-fine, cut-few}
 use Rattle.reduction.specs.Reduction.{isOn, keeping}
-use Rattle.reduction.specs.Claims.{allBut}
+use Rattle.reduction.specs.Inner.{allBut}
 use Rattle.reduction.specs.ListLaws.{someOf-in}
 
 -- a property of both is one of the one that is picked

@@ -16,7 +16,7 @@ use Rattle.label.specs.RenamingLaws.{Numbered}
 use Rattle.diagram.specs.Diagram.{Tree, Diagram, leaf, branch}
 use Rattle.diagram.specs.Listing.{Good as Listed}
 use Rattle.diagram.specs.Variables.{occurs, occurring, variables, minimums as minimumsOf, closedFrom, closed, after}
-use Rattle.rename.specs.Relabelling.{KindsFit}
+use Rattle.rename.specs.Inner.{KindsFit}
 use Rattle.rename.specs.Ascending.{Ascending}
 use Rattle.rename.specs.AscendingLaws.{ascending-one, ascending-weaken}
 use Rattle.rename.specs.VariableLaws.{in-occurring, occurring-in, occurring-ascending, occurs-term, occurs-numbered}

@@ -60,6 +60,7 @@
 pub mod Combinations
 pub mod Reduction
 pub mod Claims
+pub mod Inner
 -- laws
 pub mod ListLaws
 pub mod CombinationLaws

@@ -12,7 +12,7 @@ use Rattle.diagram.specs.Words.{upTo}
 use Rattle.paths.specs.PathLaws.{mem-unmap}
 use Rattle.state.specs.Max.{gather, those}
 use Rattle.reduction.specs.Combinations.{someOf}
-use Rattle.reduction.specs.Claims.{Once}
+use Rattle.reduction.specs.Inner.{Once}
 
 -- ===== Members =====
 pub gather-in : {A B : Type 0} (f : A → List B) (l : List A) (a : A) (b : B) → List·Memᴰ a l → List·Memᴰ b (f a) → List·Memᴰ b (gather f l)

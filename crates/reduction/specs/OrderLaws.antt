@@ -12,7 +12,8 @@ use Rattle.paths.specs.Paths.{Path, stepBefore, paths}
 use Rattle.paths.specs.PathLaws.{mem-unmap, paths-leaf, paths-branch, path-high, path-low}
 use Rattle.paths.specs.Routes.{pathAt}
 use Rattle.state.specs.Max.{gather, tuples}
-use Rattle.reduction.specs.Claims.{Sorted, Lower, differs, onwards, Sooner, parts, along}
+use Rattle.reduction.specs.Inner.{Sorted, Sooner, parts, along}
+use Rattle.reduction.specs.Claims.{Lower, differs, onwards}
 use Rattle.reduction.specs.ListLaws.{in-gather, in-upTo}
 
 -- ===== Sorted lists =====

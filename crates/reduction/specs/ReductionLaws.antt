@@ -33,7 +33,8 @@ use Rattle.paths.specs.Paths.{paths, mostPaths}
 use Rattle.cutting.specs.Cut.{reduced}
 use Rattle.reduction.specs.Combinations.{someOf, formed, winners}
 use Rattle.reduction.specs.Reduction.{isOn, keeping, reducedDiagram, isGeneral, hasKinds, runs, mostRuns, mostFormed, reduceAnswer}
-use Rattle.reduction.specs.Claims.{ReductionAnswered, Values}
+use Rattle.reduction.specs.Inner.{ReductionAnswered}
+use Rattle.reduction.specs.Claims.{Values}
 use Rattle.reduction.specs.KeepingLaws.{keeping-every, keeping-good, keeping-few, reduced-every}
 use Rattle.reduction.specs.ModelLaws.{Varied, keeping-number}
 use Rattle.reduction.specs.ClosedLaws.{within-closed, closed-number}

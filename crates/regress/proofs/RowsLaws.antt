@@ -16,7 +16,8 @@ use Rattle.basics.specs.Tests.{Flag, isTrue, isFalse, flag, Cmp, below, equal, 
 use Rattle.label.specs.Limits.{leafMark}
 use Rattle.label.specs.LabelLaws.{label-below}
 use Rattle.label.specs.Labels.{isLabel}
-use Rattle.label.specs.Renamings.{mapOf, moved}
+use Rattle.label.specs.Inner.{mapOf}
+use Rattle.label.specs.Renamings.{moved}
 use Rattle.label.specs.Callers.{Movable}
 use Rattle.label.proofs.CodeLaws.{under-all}
 use Rattle.label.specs.declared.Test.{Test}

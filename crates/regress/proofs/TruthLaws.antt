@@ -15,7 +15,7 @@ use Rattle.label.specs.Limits.{firstVariable, termEnd, predicateCount, mostPlac
 use Rattle.label.specs.Labels.{areArities, placesOf, termsOf, unpacked, predicateOf, placeAt}
 use Rattle.label.specs.LabelLaws.{term-below, label-below, label-fits, place-of, predicate-of}
 use Rattle.label.specs.ArityLaws.{arity-most, arity-words, take-at, take-past}
-use Rattle.label.specs.Renamings.{mapOf}
+use Rattle.label.specs.Inner.{mapOf}
 use Rattle.label.specs.declared.Label.{Label}
 use Rattle.label.specs.declared.Test.the-variants.{Is}
 use Rattle.diagram.specs.Sizes.{highestValue}

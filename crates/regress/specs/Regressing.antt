@@ -12,7 +12,7 @@ use Rattle.label.specs.Limits.{predicateCount}
 use Rattle.diagram.specs.Sizes.{resultWords, spaceWords, spaceRows, mostRows, mostPairs}
 use Rattle.diagram.specs.Diagram.{Diagram}
 use Rattle.diagram.specs.Rows.{rows}
-use Rattle.diagram.specs.RowLists.{Written}
+use Rattle.diagram.specs.Inner.{Written}
 use Rattle.diagram.specs.Words.{isListing}
 use Rattle.diagram.specs.Validity.{tree}
 use Rattle.store.specs.Space.{diagramsOf, Holds}

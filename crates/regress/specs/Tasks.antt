@@ -10,7 +10,8 @@ use Rattle.refusal.specs.declared.Refusal.the-variants.{Space}
 use Rattle.label.specs.Limits.{leafMark, termEnd}
 use Rattle.label.specs.Terms.{isTerm}
 use Rattle.label.specs.Labels.{areArities, placesOf, isLabel, termsOf, unpacked}
-use Rattle.label.specs.Renamings.{mapOf, moved}
+use Rattle.label.specs.Inner.{mapOf}
+use Rattle.label.specs.Renamings.{moved}
 use Rattle.label.specs.Callers.{TermMap}
 use Rattle.label.specs.declared.Atom.{Atom}
 use Rattle.diagram.specs.Sizes.{highestValue, spaceRows}

@@ -20,7 +20,7 @@ ghost use Rattle.combine.specs.Calls.{few};
 ghost use Rattle.diagram.specs.Validity.{tree};
 ghost use Rattle.row_steps.specs.Running.{Ready, Ran};
 ghost use Rattle.diagram.specs.Words.{isListing};
-ghost use Rattle.label.specs.Renamings.{mapOf};
+ghost use Rattle.label.specs.Inner.{mapOf};
 ghost use Rattle.label.specs.Labels.{termsOf, unpacked};
 ghost use Rattle.regression.specs.Regression.{argument, replacement, truthAt, regression, regressed};
 ghost use Rattle.regress.specs.Tasks.{taskAt, Taskable, taskRun, Tasked, replacedBy, Mapping, toldAs, usedPlaces, Usable, Arguable, Argued};

@@ -17,14 +17,15 @@ use Rattle.diagram.specs.Sizes.{spaceRows, mostPairs}
 use Rattle.diagram.specs.Diagram.{Diagram, same}
 use Rattle.diagram.specs.DiagramLaws.{onto-old}
 use Rattle.diagram.specs.Rows.{onto}
-use Rattle.diagram.specs.RowLists.{Kept}
+use Rattle.diagram.specs.Inner.{Kept}
 use Rattle.diagram.specs.RowLaws.{onto-mem, onto-kept, kept-children, kept-nodup, onto-keeps}
 use Rattle.apply.specs.declared.Operation.{Operation}
 use Rattle.apply.specs.Apply.{apply}
 use Rattle.apply.specs.Pairs.{pairs, pairCount, overflows}
 use Rattle.apply.specs.Combination.{operate}
 use Rattle.apply.specs.Visit.{visit}
-use Rattle.apply.specs.Formed.{formed, ClosedRows}
+use Rattle.apply.specs.Inner.{ClosedRows}
+use Rattle.apply.specs.Formed.{formed}
 use Rattle.apply.specs.FormedLaws.{formed-visit, formed-count}
 use Rattle.regression.specs.Calls.{Run, pure, bind, form, combine}
 

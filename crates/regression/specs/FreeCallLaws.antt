@@ -17,7 +17,8 @@ use Rattle.basics.specs.Members.{clash}
 use Rattle.label.specs.Limits.{firstParameter, parameterCount, firstVariable, variableCount, firstMinimum}
 use Rattle.label.specs.Terms.{isConstant, isParameter, isVariable, isMinimum, isTerm}
 use Rattle.label.specs.Labels.{areArities, placesOf, predicateOf, unpacked, isLabel, termsOf}
-use Rattle.label.specs.Renamings.{mapped, renamed, freeing, Increasing, EachIn}
+use Rattle.label.specs.Inner.{Increasing}
+use Rattle.label.specs.Renamings.{mapped, renamed, freeing, EachIn}
 use Rattle.label.specs.RenamingLaws.{Freed as Freeable, freeing-increasing, renamed-atom, renamed-terms}
 use Rattle.label.specs.declared.Atom.{Atom}
 use Rattle.diagram.specs.Sizes.{resultWords, spaceWords}
@@ -33,7 +34,7 @@ use Rattle.state.specs.State.{Atomic, atom, atomOf, meaning, State, Good}
 use Rattle.state.specs.Terms.{Each, args, Terms, renameAtom, rename}
 use Rattle.state.specs.ValueLaws.{Terms-mono}
 use Rattle.minimum.specs.Number.{Number}
-use Rattle.minimum.specs.Operations.{Room}
+use Rattle.minimum.specs.Inner.{Room}
 use Rattle.minimum.specs.OccurLaws.{occur-terms}
 use Rattle.minimum.specs.FreedLaws.{number-freed}
 use Rattle.regression.specs.declared.Freed.the-variants.{Refused}

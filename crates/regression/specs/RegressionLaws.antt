@@ -17,7 +17,7 @@ use Rattle.diagram.specs.Sizes.{mostRows}
 use Rattle.diagram.specs.Diagram.{Diagram, leaf, branch}
 use Rattle.diagram.specs.Rows.{rows}
 use Rattle.diagram.specs.Listing.{index}
-use Rattle.diagram.specs.RowLists.{Earlier, Kept}
+use Rattle.diagram.specs.Inner.{Earlier, Kept}
 use Rattle.diagram.specs.ListingLaws.{getD-index}
 use Rattle.diagram.specs.RowLaws.{rows-kept, rows-root}
 use Rattle.regression.specs.Calls.{Run, pure, bind, form}

@@ -12,12 +12,13 @@ use borrow.Author.Tests.{eqb-true, eq-eqb, ne-eqb}
 use Rattle.basics.specs.Tests.{and-left}
 use Rattle.label.specs.Limits.{predicateCount, leafMark}
 use Rattle.label.specs.Labels.{areArities, isLabel}
-use Rattle.label.specs.Renamings.{mapOf, renamed}
+use Rattle.label.specs.Inner.{mapOf}
+use Rattle.label.specs.Renamings.{renamed}
 use Rattle.label.specs.Callers.{Movable}
 use Rattle.diagram.specs.Words.{labelAt}
 use Rattle.diagram.specs.Validity.{ValidRow, a-leaf, a-branch}
 use Rattle.diagram.specs.ListingValid.{listing-is-valid}
-use Rattle.rename.specs.Relabelling.{labelled, relabelled}
+use Rattle.rename.specs.Inner.{labelled, relabelled}
 use Rattle.rename.specs.Calls.{Word, Renamable}
 use Rattle.rename.specs.Steps.{Copied}
 

@@ -11,13 +11,14 @@ use Rattle.basics.specs.Members.{mem, Within}
 use Rattle.label.specs.Limits.{firstVariable, variableCount, firstMinimum, minimumCount}
 use Rattle.label.specs.Labels.{areArities}
 use Rattle.label.specs.LabelLaws.{term-below}
-use Rattle.label.specs.Renamings.{rank, renamed, numbering, Increasing}
+use Rattle.label.specs.Inner.{Increasing}
+use Rattle.label.specs.Renamings.{rank, renamed, numbering}
 use Rattle.label.specs.RenamingLaws.{Numbered, rank-below, numbering-low, numbering-variable, numbering-minimum, numbering-increasing}
 use Rattle.diagram.specs.Diagram.{Diagram}
 use Rattle.diagram.specs.Rows.{rows}
 use Rattle.diagram.specs.Listing.{listing, Fine, Good}
 use Rattle.diagram.specs.Variables.{occurs, occurring, variables, minimums, closedFrom, closed, after}
-use Rattle.rename.specs.Relabelling.{Named, KindsFit}
+use Rattle.rename.specs.Inner.{Named, KindsFit}
 use Rattle.rename.specs.RelabelLaws.{labels-weaken, relabel-same}
 use Rattle.rename.specs.Ascending.{consecutive}
 use Rattle.rename.specs.AscendingLaws.{mem-place, rank-place, ascending-one, consecutive-ascending, in-consecutive, consecutive-in, rank-consecutive}

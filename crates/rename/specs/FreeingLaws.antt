@@ -10,7 +10,8 @@ use lib.Dec.{ltb}
 use borrow.Author.Tests.{lt-ltb, le-ltb}
 use Rattle.basics.specs.Tests.{Cmp, below, equal, above, cmp}
 use Rattle.label.specs.Limits.{firstParameter, firstVariable, firstMinimum}
-use Rattle.label.specs.Renamings.{freeing, Increasing}
+use Rattle.label.specs.Inner.{Increasing}
+use Rattle.label.specs.Renamings.{freeing}
 use Rattle.label.specs.RenamingLaws.{Freed, freeing-increasing, freeing-constant, freeing-parameter, freeing-variable, freeing-minimum}
 use Rattle.diagram.specs.Diagram.{Diagram}
 use Rattle.diagram.specs.Rows.{rows}
@@ -20,7 +21,8 @@ use Rattle.rename.specs.Relabelling.{Terms}
 use Rattle.rename.specs.VariableLaws.{terms-each-occurs, occurs-term, renaming-good, renaming-rows}
 use Rattle.rename.specs.Valuations.{leafOf}
 use Rattle.rename.specs.ValuationLaws.{cond-below, leaf-agree, leaf-renaming}
-use Rattle.rename.specs.Freeing.{freed, Freeable, FreedBy, BoundBy, FreedFree}
+use Rattle.rename.specs.Inner.{Freeable, FreedBy, BoundBy, FreedFree}
+use Rattle.rename.specs.Freeing.{freed}
 
 pub freeing-other : (c t : ℕ) → firstParameter + c ≤ t → t < firstVariable → freeing c t ≡ t
 unfolding freeing

@@ -33,6 +33,7 @@ pub mod ClosingLaws
 pub mod Valuations
 pub mod ValuationLaws
 pub mod Freeing
+pub mod Inner
 pub mod FreeingLaws
 pub mod Maps
 pub mod MapLaws

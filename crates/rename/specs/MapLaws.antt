@@ -12,7 +12,8 @@ use Rattle.basics.specs.Tests.{Flag, isTrue, isFalse, flag, Cmp, below, equal, 
 use Rattle.basics.specs.Members.{mem}
 use Rattle.label.specs.Limits.{firstVariable, variableCount, firstMinimum, minimumCount, termEnd, firstParameter, parameterCount}
 use Rattle.label.specs.Callers.{TermMap}
-use Rattle.label.specs.Renamings.{rank, numbering, freeing, mapOf}
+use Rattle.label.specs.Inner.{mapOf}
+use Rattle.label.specs.Renamings.{rank, numbering, freeing}
 use Rattle.label.specs.RenamingLaws.{rank-below, numbering-low, numbering-variable, numbering-minimum, freeing-constant, freeing-parameter, freeing-variable, freeing-minimum}
 use Rattle.diagram.specs.Diagram.{Diagram}
 use Rattle.diagram.specs.Variables.{occurs, occurring, variables, minimums}
@@ -21,7 +22,7 @@ use Rattle.rename.specs.AscendingLaws.{ascending-weaken, ascending-not, 
 use Rattle.rename.specs.Maps.{tabled, isUsed, usedFrom, usedVariables, usedMinimums, Marks, closeAt}
 use Rattle.rename.specs.Calls.{Closable}
 use mathlib.Core.Logic.{_⊎_, inl, inr}
-use Rattle.rename.specs.Relabelling.{KindsFit}
+use Rattle.rename.specs.Inner.{KindsFit}
 use Rattle.rename.specs.FreeingLaws.{freeing-other}
 
 -- the laws of `tabled`: nothing else unfolds it

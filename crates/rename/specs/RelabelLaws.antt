@@ -16,7 +16,7 @@ use Rattle.diagram.specs.DiagramLaws.{same-eq, same-refl, onto-old, onto-leaf, 
 use Rattle.diagram.specs.Rows.{onto, rows}
 use Rattle.diagram.specs.Listing.{index, encode, listing}
 use Rattle.diagram.specs.ListingLaws.{index-here, index-there}
-use Rattle.rename.specs.Relabelling.{AllLabels, Keeps, relabelled}
+use Rattle.rename.specs.Inner.{AllLabels, Keeps, relabelled}
 
 -- the meaning, for any change of labels
 pub eval-relabel : {L M : Type 0} (c : M → Bool) (g : L → M) (d : Tree L) → eval c (relabel g d) ≡ eval (λ l. c (g l)) d

@@ -8,16 +8,18 @@ use lib.Dec.{eqb}
 use Rattle.basics.specs.Members.{mem}
 use Rattle.label.specs.Limits.{firstVariable, firstMinimum, termEnd}
 use Rattle.label.specs.LabelLaws.{term-below}
-use Rattle.label.specs.Renamings.{mapOf, renamed, numbering, freeing, Increasing, EachIn}
+use Rattle.label.specs.Inner.{mapOf, Increasing}
+use Rattle.label.specs.Renamings.{renamed, numbering, freeing, EachIn}
 use Rattle.label.specs.RenamingLaws.{Numbered, Freed, freeing-increasing}
 use Rattle.diagram.specs.Diagram.{Diagram, relabel}
 use Rattle.diagram.specs.Listing.{listing, Good}
 use Rattle.diagram.specs.Variables.{variables, minimums}
-use Rattle.rename.specs.Relabelling.{Terms, relabelled}
+use Rattle.rename.specs.Inner.{relabelled, Freeable}
+use Rattle.rename.specs.Relabelling.{Terms}
 use Rattle.rename.specs.RelabelLaws.{labels-weaken, relabel-agree}
 use Rattle.rename.specs.TermLaws.{each-weaken, renamed-agree}
 use Rattle.rename.specs.VariableLaws.{variable-occurs, minimum-occurs, renaming-listing}
-use Rattle.rename.specs.Freeing.{freed, Freeable}
+use Rattle.rename.specs.Freeing.{freed}
 use Rattle.rename.specs.FreeingLaws.{terms-freed}
 use Rattle.rename.specs.Maps.{tabled, isUsed, Marks, closeAt}
 use Rattle.rename.specs.MapLaws.{tabled-at, used-occurs, used-variables, used-minimums, close-numbers}

@@ -4,11 +4,13 @@ use mathlib.Core.Bool.{Bool, true, false, cond}
 use mathlib.Core.List.{List, map, map-map}
 use Prim.Native.Nat.{ℕ, _<_}
 use Rattle.label.specs.Labels.{areArities, predicateOf, unpacked, termsOf, isLabel}
-use Rattle.label.specs.Renamings.{renamed, mapped, Increasing, EachIn}
+use Rattle.label.specs.Inner.{Increasing}
+use Rattle.label.specs.Renamings.{renamed, mapped, EachIn}
 use Rattle.label.specs.RenamingLaws.{renamed-terms, renamed-atom}
 use Rattle.diagram.specs.Diagram.{Diagram, relabel}
 use Rattle.diagram.specs.Listing.{Fine}
-use Rattle.rename.specs.Relabelling.{Terms, Named}
+use Rattle.rename.specs.Inner.{Named}
+use Rattle.rename.specs.Relabelling.{Terms}
 use Rattle.rename.specs.RelabelLaws.{eval-relabel, eval-agree, labels-weaken}
 use Rattle.rename.specs.AscendingLaws.{map-agree}
 use Rattle.rename.specs.TermLaws.{each-terms}

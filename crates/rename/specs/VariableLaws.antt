@@ -13,7 +13,8 @@ use Rattle.basics.specs.Members.{mem, clash}
 use Rattle.label.specs.Limits.{firstVariable, variableCount, firstMinimum, minimumCount, termEnd}
 use Rattle.label.specs.Terms.{isTerm}
 use Rattle.label.specs.Labels.{areArities, unpacked, termsOf}
-use Rattle.label.specs.Renamings.{renamed, Increasing, EachIn}
+use Rattle.label.specs.Inner.{Increasing}
+use Rattle.label.specs.Renamings.{renamed, EachIn}
 use Rattle.label.specs.LabelLaws.{term-below}
 use Rattle.label.specs.RenamingLaws.{renamed-label, renamed-less, renamed-terms, Numbered}
 use Rattle.diagram.specs.Diagram.{Diagram, leaf, branch, relabel, EveryLabel}
@@ -21,7 +22,8 @@ use Rattle.diagram.specs.Rows.{rows}
 use Rattle.diagram.specs.Listing.{listing, Fine, Good}
 use Rattle.diagram.specs.RowDiagrams.{not-mark}
 use Rattle.diagram.specs.Variables.{occurs, occurring, variables, minimums}
-use Rattle.rename.specs.Relabelling.{Terms, Named, Keeps, relabelled}
+use Rattle.rename.specs.Inner.{Named, Keeps, relabelled}
+use Rattle.rename.specs.Relabelling.{Terms}
 use Rattle.rename.specs.RelabelLaws.{labels-weaken, relabel-ordered, relabel-reduced, relabel-count, relabel-listing}
 use Rattle.rename.specs.Ascending.{Ascending}
 use Rattle.rename.specs.AscendingLaws.{Source, map-mem, mem-map, ascending-weaken}

@@ -1,19 +1,14 @@
 -- What a list of logged lines comes to (document 02, L10): states and rewards, with no rows, no refusal and no total carried along.
 use mathlib.Core.Path.{_≡_}
-use mathlib.Core.Bool.{true, false}
 use mathlib.Core.List.{List, [], _∷_}
 use Prim.Native.Nat.{ℕ, _<_}
 use lib.ListN.{length, getD}
-use Rattle.refusal.specs.declared.Refusal.the-variants.{Weightless, Crowded, Valuations, Tally}
-use Rattle.refusal.specs.Outcome.{Outcome, ok, refused}
 use Rattle.label.specs.Limits.{predicateCount}
 use Rattle.state.specs.State.{State}
 use Rattle.state.specs.Max.{Tuple, sumOf}
-use Rattle.state.specs.Lent.{factCount, mostFacts}
 use Rattle.mdp.specs.Model.{Model}
-use Rattle.mdp.specs.Bellman.{weightIn, rewardIn}
-use Rattle.replay.specs.Replay.{Did, actionOf, variantOf, stateNext, Replay, inHand, movedBy, counted}
-use Rattle.replay.specs.Replay.{hasNoWeight, hasManyFacts, hasValuations, isTooHigh}
+use Rattle.mdp.specs.Bellman.{rewardIn}
+use Rattle.replay.specs.Replay.{Did, actionOf, stateNext, Replay, inHand}
 
 -- the states s0, s1, .. that the lines lead through: each by the truth diagrams of the next line
 unfoldable pub states : Model → State → List Did → List State
@@ -51,12 +46,3 @@ pub record Comes (m : Model) (s : State) (done : List Did) (r : Replay) : Type 0
   pub state : Alike (m .arities) (inHand (m .arities) r) (stateBehind m s done)
   pub total : 0 < length done → r .total ≡ rewardsAlong m s done
   pub none : length done ≡ 0 → r .total ≡ 0
-
--- each answer exactly under its condition, in the order 21, 22, 15, 23
-pub data Verdict (m : Model) (r : Replay) (d : Did) : Outcome Replay → Type 0 where
-  on21 : weightIn (m .arities) (inHand (m .arities) r) (d .objects) (variantOf m d) ≡ 0 → Verdict m r d (refused Weightless)
-  on22 : hasNoWeight m r d ≡ false → mostFacts < factCount (movedBy m r d .facts) → Verdict m r d (refused Crowded)
-  on15 : hasNoWeight m r d ≡ false → hasManyFacts m r d ≡ false → hasValuations m r d ≡ true → Verdict m r d (refused Valuations)
-  on23 : hasNoWeight m r d ≡ false → hasManyFacts m r d ≡ false → hasValuations m r d ≡ false → isTooHigh m r d ≡ true → Verdict m r d (refused Tally)
-  allowed : hasNoWeight m r d ≡ false → hasManyFacts m r d ≡ false → hasValuations m r d ≡ false → isTooHigh m r d ≡ false
-      → Verdict m r d (ok (counted m r d))

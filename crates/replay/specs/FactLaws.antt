@@ -20,7 +20,7 @@ use Rattle.state.specs.State.{State}
 use Rattle.state.specs.Max.{Tuple, none, more, those, tuples}
 use Rattle.state.specs.Lent.{factWords, factCount, predicateAt, objectsAt, saysFact, saidBy, factRow, allBelow, namesBelow, constantsBelow, isState}
 use Rattle.state.specs.LentLaws.{some-made, some-found}
-use Rattle.reduction.specs.Claims.{Once}
+use Rattle.reduction.specs.Inner.{Once}
 use Rattle.reduction.specs.ListLaws.{gather-in, in-gather, those-in, in-those, upTo-in, place-of, once-those, once-gather, once-upTo}
 use Rattle.reduction.specs.CombinationLaws.{tuples-in, in-tuples, tuples-once}
 use Rattle.replay.specs.Replay.{rowsAt, factRows, flat, factsOf}

@@ -32,6 +32,7 @@
 -- definitions
 pub mod Replay
 pub mod Along
+pub mod Inner
 -- laws
 pub mod AlikeLaws
 pub mod LargeLaws

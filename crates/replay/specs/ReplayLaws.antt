@@ -18,7 +18,8 @@ use Rattle.mdp.specs.Bellman.{rewardIn}
 use Rattle.replay.specs.Replay.{Did, noVariant, noAction, actionOf, variantOf, Replay, inHand, begun, stateNext, movedBy, rewardHere, rewardMet, counted}
 use Rattle.replay.specs.Replay.{hasNoWeight, hasManyFacts, hasValuations, isTooHigh}
 use Rattle.replay.specs.Replay.{did, behind, replay, ifAccepted, acceptedOf}
-use Rattle.replay.specs.Along.{states, stateBehind, rewardsAlong, Alike, Checked, Comes, Verdict, on21, on22, on15, on23, allowed}
+use Rattle.replay.specs.Inner.{Verdict, on21, on22, on15, on23, allowed}
+use Rattle.replay.specs.Along.{states, stateBehind, rewardsAlong, Alike, Checked, Comes}
 use Rattle.replay.specs.AlikeLaws.{alike-same, alike-then, next-alike, reward-alike}
 use Rattle.replay.specs.FactLaws.{facts-said}
 

@@ -24,7 +24,7 @@ use Rattle.state.specs.Lent.{factWords, factCount, stateOf, isState, mostFacts}
 use Rattle.minimum.specs.NumberLaws.{number-is, number-attained}
 use Rattle.elimination.specs.Answer.{isTooLarge}
 use Rattle.elimination.specs.AnswerLaws.{lent-good}
-use Rattle.fact_index.specs.Index.{indexedCount, Indexed}
+use Rattle.fact_index.specs.Inner.{indexedCount, Indexed}
 use Rattle.mdp.specs.BackupLaws.{bound-none}
 use Rattle.mdp.specs.Bellman.{stateAfter}
 use Rattle.replay.specs.Replay.{factsOf}

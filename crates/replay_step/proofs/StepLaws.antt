@@ -23,7 +23,8 @@ use Rattle.names.specs.ManyLaws.{length-many, getD-many}
 use Rattle.mdp.specs.Model.{Variant, Action, Model, Every, GoodVariant, GoodAction}
 use Rattle.mdp.specs.Bellman.{weightIn, stateAfter, rewardIn}
 use Rattle.model.specs.declared.Head.{Head}
-use Rattle.model.specs.Layout.{variantWords, variantPlace, weightWords, variantAt, variantsOf, actionAt, rewardWords, modelOf, LaidVariant}
+use Rattle.model.specs.Inner.{LaidVariant}
+use Rattle.model.specs.Layout.{variantWords, variantPlace, weightWords, variantAt, variantsOf, actionAt, rewardWords, modelOf}
 use Rattle.replay.specs.Replay.{Did, Replay, noVariant, noAction, variantOf, inHand, factsOf, stateNext, movedBy, rewardHere, rewardMet, rewardEnds, counted}
 use Rattle.replay.specs.Replay.{hasNoWeight, hasManyFacts, hasValuations, isTooHigh, did}
 use Rattle.minimum.specs.Number.{number}

@@ -13,7 +13,7 @@ use Rattle.diagram.specs.Variables.{isPlain}
 use Rattle.state.specs.Lent.{factWords, factCount, isState, allBelow, mostFacts}
 use Rattle.state.specs.declared.Valued.{Valued}
 use Rattle.state.specs.declared.Valued.the-variants.{Value, Refused as Unvalued}
-use Rattle.fact_index.specs.Index.{indexedCount, Indexed}
+use Rattle.fact_index.specs.Inner.{indexedCount, Indexed}
 use Rattle.model.specs.Layout.{variantWords, weightWords}
 use Rattle.valuing.specs.Walks.{boundAnswer, isFew}
 use Rattle.replay_step.specs.declared.Stepped.{Stepped}

@@ -7,9 +7,10 @@ use lib.ListN.{length, take}
 use Rattle.refusal.specs.Outcome.{Outcome, ok, refused}
 use Rattle.diagram.specs.Sizes.{highestValue}
 use Rattle.state.specs.Lent.{factWords, isState, allBelow, mostFacts}
-use Rattle.fact_index.specs.Index.{indexedCount, Indexed}
+use Rattle.fact_index.specs.Inner.{indexedCount, Indexed}
 use Rattle.model.specs.declared.Head.{Head}
-use Rattle.model.specs.Layout.{variantsOf, modelOf, Laid}
+use Rattle.model.specs.Inner.{Laid}
+use Rattle.model.specs.Layout.{variantsOf, modelOf}
 use Rattle.replay.specs.Replay.{Did, Replay, did}
 use Rattle.replay_step.specs.declared.Stepped.{Stepped}
 use Rattle.replay_step.specs.declared.Stepped.the-variants.{Done, Refused}

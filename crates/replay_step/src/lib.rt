@@ -11,7 +11,7 @@ ghost use lib.Dec.{eqb};
 ghost use Rattle.diagram.specs.Sizes.{highestValue};
 ghost use Rattle.diagram.specs.Words.{isListing};
 ghost use Rattle.state.specs.Lent.{isState};
-ghost use Rattle.fact_index.specs.Index.{indexedCount, Indexed};
+ghost use Rattle.fact_index.specs.Inner.{indexedCount, Indexed};
 ghost use Rattle.model.specs.Layout.{weightWords};
 ghost use Rattle.replay.specs.Replay.{factsOf};
 ghost use Rattle.next_facts.specs.NextCall.{afterAt, Moving};

@@ -25,8 +25,9 @@ use Rattle.facts.specs.declared.Live.{Live}
 use Rattle.facts.specs.Words.{part, factsBase, stateWords}
 use Rattle.model.specs.declared.Head.{Head}
 use Rattle.model.specs.Layout.{listingWords, tableWords, actionWords, variantsOf}
-use Rattle.model_entry.specs.Building.{variantsBefore, FewVariants}
-use Rattle.planner.specs.declared.Held.{Held}
+use Rattle.model_entry.specs.Inner.{FewVariants}
+use Rattle.model_entry.specs.Building.{variantsBefore}
+use Rattle.planner.specs.declared.RunNumbers.{RunNumbers}
 use Rattle.memory.specs.declared.Numbers.{Numbers}
 use Rattle.memory.specs.Memory.{memoryOf, Rooms}
 use Rattle.checking.specs.Fitting.{isValue, actionsFit}
@@ -296,7 +297,7 @@ scale-some h e = let x = head-is h .yes e in let m : 1 * 1 ≤ h .total * h .den
 pub scale-few : (h : Head) → headFits h ≡ true → h .total * h .denominator ≤ 1000000000000
 scale-few h e = let x = head-is h .yes e in let m : h .total * h .denominator ≤ 1000000 * 1000000 = mul-le-mul (x .total-few) (x .denominator-few) in omega arith
 
-module _ (ar value : List ℕ) (h : Head) (v : Held) {b : Bool} (e : b ≡ isValue ar (take (v .rows * 3) value)) where
+module _ (ar value : List ℕ) (h : Head) (v : RunNumbers) {b : Bool} (e : b ≡ isValue ar (take (v .rows * 3) value)) where
   pub run-none : not b ≡ true → false ≡ runFits ar value h v
   unfolding runFits
   run-none f = first _ e f

@@ -29,7 +29,7 @@ use Rattle.model.specs.declared.Head.{Head}
 use Rattle.model.specs.Layout.{listingWords, tableWords, actionWords, variantPlace, variantAt, variantsOf, actionAt, rewardWords}
 use Rattle.model_entry.specs.Building.{variantsBefore}
 use Rattle.model_entry.specs.NameLaws.{variants-before}
-use Rattle.planner.specs.declared.Held.{Held}
+use Rattle.planner.specs.declared.RunNumbers.{RunNumbers}
 use Rattle.memory.specs.declared.Numbers.{Numbers}
 use Rattle.memory.specs.Memory.{Memory, Rooms}
 use Rattle.checking.specs.DecisionLaws.{on, both, unless, at-most, less, equal, is-true, every}
@@ -225,12 +225,12 @@ state-is ar s l =
     (λ x. record { objects = x .0; facts = x .1 .0; log = x .1 .1 .0; state = λ h. x .1 .1 .1 (ne-eqb (l .objects) 0 (λ z. omega (arith, h, z))) })
     (λ r. (r .objects, (r .facts, (r .log, λ f. r .state (let z = eqb-false (l .objects) 0 f in omega arith)))))
 
-pub record RunFit (ar value : List ℕ) (h : Head) (v : Held) : Type 0 where
+pub record RunFit (ar value : List ℕ) (h : Head) (v : RunNumbers) : Type 0 where
   pub diagram : IsValue ar (take (v .rows * 3) value)
   pub steps : v .steps ≤ mostSteps
   pub power : v .power ≡ (h .total * h .denominator) ^ v .steps
 
-run-is : (ar value : List ℕ) (h : Head) (v : Held) → Decides (runFits ar value h v) (RunFit ar value h v)
+run-is : (ar value : List ℕ) (h : Head) (v : RunNumbers) → Decides (runFits ar value h v) (RunFit ar value h v)
 unfolding runFits
 run-is ar value h v =
     on (both (value-is ar (take (v .rows * 3) value)) (λ a. both (at-most (v .steps) mostSteps) (λ b. equal (v .power) ((h .total * h .denominator) ^ v .steps))))

@@ -21,7 +21,7 @@ use Rattle.facts.specs.declared.Live.{Live}
 use Rattle.facts.specs.Words.{part, factsBase, stateWords}
 use Rattle.model.specs.declared.Head.{Head}
 use Rattle.model.specs.Layout.{listingWords, tableWords, actionWords, variantsOf, rewardWords}
-use Rattle.planner.specs.declared.Held.{Held}
+use Rattle.planner.specs.declared.RunNumbers.{RunNumbers}
 use Rattle.memory.specs.declared.Numbers.{Numbers}
 use Rattle.memory.specs.Memory.{Memory}
 use Rattle.checking.specs.Fitting.{isValue, actionsFit}
@@ -109,7 +109,7 @@ stateFits ar s l =
     && (eqb (l .objects) 0 || isState ar (l .objects) (part s 0 constantCount) (part s factsBase (l .facts * factWords)))))
 
 -- the value diagram, k, and S^k
-unfoldable pub runFits : List ℕ → List ℕ → Head → Held → Bool
+unfoldable pub runFits : List ℕ → List ℕ → Head → RunNumbers → Bool
 unfolding isValue
 runFits ar value h v =
     isValue ar (take (v .rows * 3) value) && (leb (v .steps) mostSteps && eqb (v .power) ((h .total * h .denominator) ^ v .steps))

@@ -31,7 +31,8 @@ use Rattle.facts.specs.Words.{placedBase, factsBase, liveOf}
 use Rattle.facts.specs.PartLaws.{length-part, part-at}
 use Rattle.model.specs.Layout.{part, actionWords, variantPlace, weightWords, variantAt, variantsOf, actionAt, modelOf}
 use Rattle.model_entry.specs.Building.{Inside, truthPlace, Canonical, SpannedVariant, ListedVariant}
-use Rattle.model_entry.specs.Starts.{Slot, reward, weight, truth, hasListing, hasStart, HasListing}
+use Rattle.model_entry.specs.Inner.{HasListing}
+use Rattle.model_entry.specs.Starts.{Slot, reward, weight, truth, hasListing, hasStart}
 use Rattle.model_entry.specs.WordLaws.{truth-here}
 use Rattle.memory.specs.declared.Numbers.{Numbers}
 use Rattle.memory.specs.Memory.{Memory, sessionOf, startsOf, Stored, IsSession}

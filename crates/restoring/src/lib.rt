@@ -5,7 +5,7 @@ use label::Label;
 use label::Term;
 use memory::Numbers;
 use model::Head;
-use planner::Held;
+use planner::RunNumbers;
 use session::Part;
 ghost use mathlib.Core.Path.{_≡_};
 ghost use mathlib.Core.Bool.{true, _||_};
@@ -17,7 +17,7 @@ ghost use Rattle.diagram.specs.Words.{everyBelow};
 ghost use Rattle.mdp.specs.Model.{mostActions};
 ghost use Rattle.facts.specs.Words.{stateWords};
 ghost use Rattle.model.specs.Layout.{listingWords, tableWords};
-ghost use Rattle.model_entry.specs.Building.{FewVariants};
+ghost use Rattle.model_entry.specs.Inner.{FewVariants};
 ghost use Rattle.memory.specs.Memory.{memoryOf};
 ghost use Rattle.restoring.specs.Restoring.{roomsFit, countsFit, aritiesFit, headFits, rewardFits, lastNamed, lastFits, modelFits, logFits, stateFits, runFits, partFits, isSession};
 
@@ -289,7 +289,7 @@ fn is_power(scale: u64, k: u64, power: u64) -> bool
 }
 
 // Whether words are a value diagram, and k and S^k beside it are numbers of a run.
-fn run_fits(arities: &[u64], value: &[u64], h: Head, v: Held) -> bool
+fn run_fits(arities: &[u64], value: &[u64], h: Head, v: RunNumbers) -> bool
     requires { ⌜ headFits h ≡ true ⌝ }
     requires { ⌜ v .rows * 3 ≤ length (now value) ⌝ }
     ensures { λ r. ⌜ r ≡ runFits (now (arities .entry)) (now (value .entry)) h v ⌝ }

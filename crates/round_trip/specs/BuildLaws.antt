@@ -27,7 +27,8 @@ use Rattle.regression.specs.Calls.{Run, bind, form, combine}
 use Rattle.regression.specs.Result.{asked, stepped}
 use Rattle.regression.specs.Step.{testDiagram, exchanged, rowStep}
 use Rattle.regression.specs.StepLaws.{most-eval, eval-test, eval-exchanged, ordered-test, from-exchanged, every-exchanged}
-use Rattle.reading.specs.Tree.{Reading, depth, opsOf}
+use Rattle.reading.specs.Inner.{depth}
+use Rattle.reading.specs.Tree.{Reading, opsOf}
 use Rattle.reading.specs.Tree.Reading.{number, branch as conditional}
 use Rattle.build.specs.Build.{meaning, readDiagram, held, rewardDiagram}
 use Rattle.build.specs.Written.{diagramFor, EachAsked, EachValue}

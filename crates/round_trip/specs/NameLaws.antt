@@ -23,7 +23,7 @@ use Rattle.names.specs.KeyLaws.{same-refl, same-not}
 use Rattle.answers.specs.Digits.{digits}
 use Rattle.answers.specs.DigitLaws.{digits-one, digits-more, digits-read, digits-number}
 use Rattle.reading.specs.Reading.{Met}
-use Rattle.reading.specs.Tree.{Reach}
+use Rattle.reading.specs.Inner.{Reach}
 use Rattle.diagram_form.specs.Form.{variableName}
 use Rattle.round_trip.specs.RoundTrip.{Different, AreNames}
 

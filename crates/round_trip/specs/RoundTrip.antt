@@ -17,7 +17,7 @@ use Rattle.words.specs.Keys.{keyOf}
 use Rattle.text.specs.Line.{GoodLine}
 use Rattle.events.specs.Events.{diagramEvents}
 use Rattle.reading.specs.declared.Binding.the-variants.{Any}
-use Rattle.reading.specs.Reading.{Names, Written}
+use Rattle.reading.specs.Reading.{Environment, Written}
 use Rattle.reading.specs.Numbering.{rewardReading}
 use Rattle.reading.specs.Tree.{Reading, opsOf}
 use Rattle.reading.specs.Tree.Reading.{number, branch as conditional}
@@ -44,7 +44,7 @@ pub record Covers (ar : List ℕ) (n : Tables) (d : Diagram) : Type 0 where
   pub predicates : EveryLabel (λ l. predicateOf l ≤ length (n .predicates)) d
 
 -- 'under the same constants and predicates declared in the same order': the names on a reward line
-abbrev pub rewardNames : List ℕ → Tables → Names
+abbrev pub rewardNames : List ℕ → Tables → Environment
 rewardNames ar n =
     record { constants = map keyOf (n .constants); predicates = map keyOf (n .predicates); arities = ar; parameters = []; binding = Any }
 

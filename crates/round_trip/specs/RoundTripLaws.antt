@@ -25,7 +25,8 @@ use Rattle.regression.specs.Parameters.{Allowed}
 use Rattle.events.specs.Events.{diagramEvents}
 use Rattle.reading.specs.Reading.{Written, isWithin, reading}
 use Rattle.reading.specs.Numbering.{rewardReading}
-use Rattle.reading.specs.Tree.{Reach, opsOf, depth, diagramReading, writing}
+use Rattle.reading.specs.Inner.{Reach, depth, diagramReading, writing}
+use Rattle.reading.specs.Tree.{opsOf}
 use Rattle.reading.specs.TreeLaws.{reading-diagram}
 use Rattle.build.specs.Build as B
 use Rattle.build.specs.Written.{diagramFor}

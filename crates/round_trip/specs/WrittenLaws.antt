@@ -12,7 +12,8 @@ use Rattle.refusal.specs.Outcome.{ok}
 use Rattle.label.specs.Limits.{firstVariable, variableCount, firstMinimum, minimumCount, equality}
 use Rattle.label.specs.Terms.{isTerm}
 use Rattle.label.specs.Labels.{areArities, predicateOf, placeAt, unpacked, termsOf, isLabel, atomFrom, testOf}
-use Rattle.label.specs.Renamings.{EachIn, Increasing, renamed, moved, mapped}
+use Rattle.label.specs.Inner.{Increasing}
+use Rattle.label.specs.Renamings.{EachIn, renamed, moved, mapped}
 use Rattle.label.specs.LabelLaws.{predicate-of, label-fits}
 use Rattle.label.specs.ArityLaws.{terms-length, terms-atom}
 use Rattle.label.specs.RenamingLaws.{renamed-atom, moved-renamed}
@@ -29,8 +30,9 @@ use Rattle.forms.specs.Tree as T
 use Rattle.forms.specs.Tree.Atom.{equal as equality-of, holds}
 use Rattle.answers.specs.DigitLaws.{digits-number, digits-value}
 use Rattle.reading.specs.declared.Binding.the-variants.{Any}
-use Rattle.reading.specs.Reading.{Names, Met, constantNumber, met, numberIn, variableNumber, minimumNumber}
-use Rattle.reading.specs.Tree.{Reach, having, resolveTerm, resolveTerms, resolveAtom, resolveDiagram}
+use Rattle.reading.specs.Reading.{Environment, Met, constantNumber, met, numberIn, variableNumber, minimumNumber}
+use Rattle.reading.specs.Inner.{Reach}
+use Rattle.reading.specs.Tree.{having, resolveTerm, resolveTerms, resolveAtom, resolveDiagram}
 use Rattle.line_trees.specs.VariableLaws.{number-exact}
 use Rattle.diagram_form.specs.Form.{Tables, variableName, termTree, atomTree, formTree}
 use Rattle.diagram_form.specs.FormLaws.{Kinds, constant, maximum, least, kinds, constant-tree, variable-tree, minimum-tree}
@@ -136,7 +138,7 @@ module _ (ar : List ℕ) (n : Tables) (v : Reach) (good : areArities ar ≡ true
 
   -- ===== Resolved =====
 
-  abbrev pub names : Names
+  abbrev pub names : Environment
   names = rewardNames ar n
 
   abbrev pub vs : Met

@@ -12,7 +12,7 @@ use Rattle.basics.specs.Tests.{Flag, isTrue, isFalse, flag}
 use Rattle.diagram.specs.Sizes.{highestValue, spaceRows, mostPairs}
 use Rattle.diagram.specs.Diagram.{Diagram, same}
 use Rattle.diagram.specs.Listing.{index}
-use Rattle.diagram.specs.RowLists.{Written}
+use Rattle.diagram.specs.Inner.{Written}
 use Rattle.apply.specs.declared.Operation.{Operation}
 use Rattle.apply.specs.Combination.{operate}
 use Rattle.apply.specs.Apply.{node, apply}

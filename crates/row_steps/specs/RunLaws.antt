@@ -21,7 +21,8 @@ use Rattle.diagram.specs.Rows.{onto}
 use Rattle.diagram.specs.Words.{labelAt, highAt, lowAt}
 use Rattle.diagram.specs.Listing.{index}
 use Rattle.diagram.specs.Validity.{tree}
-use Rattle.diagram.specs.RowLists.{rowTree, Encoded, isPart}
+use Rattle.diagram.specs.Inner.{Encoded, isPart}
+use Rattle.diagram.specs.RowLists.{rowTree}
 use Rattle.diagram.specs.RowLaws.{onto-mem, row-mem, onto-from, part-leaf, part-branch, PartOf, it-is, of-high, of-low, onto-keeps}
 use Rattle.diagram.specs.Shown.{Shown}
 use Rattle.diagram.specs.WrittenRows.{written-shown}

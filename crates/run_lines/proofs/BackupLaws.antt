@@ -21,13 +21,14 @@ use Rattle.session.specs.Running.{backupIs}
 use Rattle.session.specs.Replies.{callSays, done, wordsOf}
 use Rattle.model.specs.Layout.{modelOf}
 use Rattle.steps.specs.GivenLaws.{result-count}
-use Rattle.planner.specs.declared.Held.{Held}
+use Rattle.planner.specs.declared.RunNumbers.{RunNumbers}
 use Rattle.planner.specs.declared.Backed.{Backed}
 use Rattle.planner.specs.declared.Backed.the-variants.{Done, Refused}
 use Rattle.planner.specs.Backed.{BackedUp}
 use Rattle.planner.proofs.HeldLaws.{backup-result, backup-refused, backup-power}
 use Rattle.memory.specs.declared.Numbers.{Numbers}
-use Rattle.memory.specs.Memory.{Memory, sessionOf, Ready, Answers}
+use Rattle.memory.specs.Inner.{Ready, Answers}
+use Rattle.memory.specs.Memory.{Memory, sessionOf}
 use Rattle.run_lines.specs.Lines.{runningWith, BackupTask, BackupAnswered}
 use Rattle.run_lines.proofs.HoldLaws.{withValue, call-answers, call-refused}
 
@@ -40,7 +41,7 @@ few-steps m k d l e = go (flag (scaleEnds m k))
     go (isFalse q) = let f = on-scale m k q .1 in omega arith
 
 -- one backup more: m rows, k + 1, and S^(k+1)
-abbrev next : Numbers → ℕ → ℕ → Held
+abbrev next : Numbers → ℕ → ℕ → RunNumbers
 next n m p = record { rows = m; steps = n .held .steps + 1; power = p }
 
 module _ {s : List ℕ} (number : ℕ) {n : Numbers} {w : Memory} (r : Ready K.Backup s n w) {work : List ℕ}

@@ -19,7 +19,8 @@ use Rattle.session.specs.Running.{cutIs}
 use Rattle.session.specs.Replies.{callSays, done, wordsOf}
 use Rattle.steps.specs.Steps.{Result}
 use Rattle.memory.specs.declared.Numbers.{Numbers}
-use Rattle.memory.specs.Memory.{Memory, sessionOf, Ready, Answers}
+use Rattle.memory.specs.Inner.{Ready, Answers}
+use Rattle.memory.specs.Memory.{Memory, sessionOf}
 use Rattle.run_lines.specs.Lines.{CutAnswered}
 use Rattle.run_lines.proofs.HoldLaws.{withValue, call-refused, leaving, replace-answers}
 

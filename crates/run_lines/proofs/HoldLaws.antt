@@ -22,10 +22,11 @@ use Rattle.session.specs.Session.{withHeld}
 use Rattle.session.specs.Replies.{Reply, callSays, done, wordsOf}
 use Rattle.model.specs.Layout.{modelOf}
 use Rattle.steps.specs.Steps.{Result}
-use Rattle.planner.specs.declared.Held.{Held}
+use Rattle.planner.specs.declared.RunNumbers.{RunNumbers}
 use Rattle.planner.specs.Run.{heldIn}
 use Rattle.memory.specs.declared.Numbers.{Numbers}
-use Rattle.memory.specs.Memory.{Memory, sessionOf, Holding, Stored, Ready, Answers}
+use Rattle.memory.specs.Inner.{Ready, Answers}
+use Rattle.memory.specs.Memory.{Memory, sessionOf, Holding, Stored}
 use Rattle.memory.specs.CarriedLaws.{carried-same, carried-run}
 use Rattle.memory.specs.RunLaws.{in-run, run-holding}
 use Rattle.run_lines.specs.Lines.{runningWith}
@@ -41,7 +42,7 @@ withValue w value = record {
   value = value;
 }
 
-pub running-stored : {n : Numbers} {w : Memory} → Stored n w → (h : Held) (value : List ℕ) → length value ≡ length (w .value) → h .rows * 3 ≤ length value
+pub running-stored : {n : Numbers} {w : Memory} → Stored n w → (h : RunNumbers) (value : List ℕ) → length value ≡ length (w .value) → h .rows * 3 ≤ length value
     → Holding (runningWith n h) (withValue w value) → Stored (runningWith n h) (withValue w value)
 running-stored s h value e r g = record {
   vocabulary = s .vocabulary;
@@ -67,7 +68,7 @@ module _ {k : Kind} {s : List ℕ} {number : ℕ} {n : Numbers} {w : Memory} (p 
   unfolding sessionOf
   call-answers {m} {q} {value} x power few l e =
       let z = y ∙ ap (λ (d : Outcome Diagram). callSays (sessionOf n w) number says (heldWith j d)) (x .is) in
-      let h : Held = record { rows = m; steps = j; power = q } in
+      let h : RunNumbers = record { rows = m; steps = j; power = q } in
       record {
         answer = e ∙ sym (ap (λ (t : Reply). t .answer) z);
         session = ap (λ (t : Part). withHeld (sessionOf n w) t (heldIn h value)) (sym (in-run p r)) ∙ sym (ap (λ (t : Reply). t .session) z);

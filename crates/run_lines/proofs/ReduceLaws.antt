@@ -25,10 +25,11 @@ use Rattle.session.specs.Replies.{callSays, done, wordsOf}
 use Rattle.steps.specs.declared.Step.the-variants.{Rows}
 use Rattle.steps.specs.Steps.{stepAs, Result, Wrote}
 use Rattle.steps.specs.GivenLaws.{result-count}
-use Rattle.planner.specs.declared.Held.{Held}
-use Rattle.planner.specs.Run.{ReplaceTask}
+use Rattle.planner.specs.declared.RunNumbers.{RunNumbers}
+use Rattle.planner.specs.Inner.{ReplaceTask}
 use Rattle.memory.specs.declared.Numbers.{Numbers}
-use Rattle.memory.specs.Memory.{Memory, sessionOf, Ready, Answers}
+use Rattle.memory.specs.Inner.{Ready, Answers}
+use Rattle.memory.specs.Memory.{Memory, sessionOf}
 use Rattle.run_lines.specs.Lines.{ReduceAnswered}
 use Rattle.run_lines.proofs.HoldLaws.{withValue, call-refused, leaving, replace-answers}
 
@@ -51,7 +52,7 @@ unfolding written
 buffer-as out (ok d) = refl
 buffer-as out (refused x) = refl
 
-module _ {ar : List ℕ} {h : Held} {value work : List ℕ} (t : ReplaceTask ar h value work) where
+module _ {ar : List ℕ} {h : RunNumbers} {value work : List ℕ} (t : ReplaceTask ar h value work) where
   abbrev W : Diagram
   W = diagramOf (take (h .rows * 3) value)
 

@@ -11,7 +11,8 @@ use Rattle.session.specs.Replies.{done}
 use Rattle.steps.specs.Steps.{Result}
 use Rattle.steps.specs.GivenLaws.{result-count}
 use Rattle.memory.specs.declared.Numbers.{Numbers}
-use Rattle.memory.specs.Memory.{Memory, sessionOf, Ready, Answers}
+use Rattle.memory.specs.Inner.{Ready, Answers}
+use Rattle.memory.specs.Memory.{Memory, sessionOf}
 use Rattle.memory.specs.CarriedLaws.{carried-same}
 use Rattle.memory.specs.RunLaws.{run-holding}
 use Rattle.run_lines.specs.Lines.{ShowAnswered}

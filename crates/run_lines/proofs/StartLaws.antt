@@ -16,14 +16,15 @@ use Rattle.session.specs.ModelLines.{weighed}
 use Rattle.session.specs.Running.{startLine}
 use Rattle.session.specs.Replies.{Reply, quietly, done}
 use Rattle.model.specs.Layout.{modelOf}
-use Rattle.planner.specs.declared.Held.{Held}
-use Rattle.planner.specs.Run.{Holds, Takeable, Taken}
+use Rattle.planner.specs.declared.RunNumbers.{RunNumbers}
+use Rattle.planner.specs.Inner.{Holds, Takeable, Taken}
 use Rattle.planner.proofs.HeldLaws.{laid-takeable, reward-holds}
 use Rattle.weights.specs.declared.Weighed.{Weighed}
 use Rattle.weights.specs.declared.Weighed.the-variants.{Done, Refused}
 use Rattle.weights.specs.Weighing.{weighedAs, Weighable}
 use Rattle.memory.specs.declared.Numbers.{Numbers}
-use Rattle.memory.specs.Memory.{Memory, sessionOf, Ready, Answers}
+use Rattle.memory.specs.Inner.{Ready, Answers}
+use Rattle.memory.specs.Memory.{Memory, sessionOf}
 use Rattle.memory.specs.CarriedLaws.{carried-same, carried-run}
 use Rattle.memory.specs.StoredLaws.{stored-reward}
 use Rattle.run_lines.specs.Lines.{runningWith, StartTask, StartAnswered}
@@ -63,7 +64,7 @@ module _ (σ τ : Session) (number : ℕ) where
 -- ===== The session behind it =====
 
 -- the reward's m rows, and k = 0
-abbrev first : ℕ → Held
+abbrev first : ℕ → RunNumbers
 first m = record { rows = m; steps = 0; power = 1 }
 
 module _ {s : List ℕ} (number : ℕ) {n : Numbers} {w : Memory} (r : Ready K.Start s n w) {work : List ℕ}

@@ -20,7 +20,8 @@ use Rattle.session.specs.Session.{Session, refuseIf}
 use Rattle.session.specs.Running.{formRead}
 use Rattle.session.specs.Replies.{textSays, done}
 use Rattle.memory.specs.declared.Numbers.{Numbers}
-use Rattle.memory.specs.Memory.{Memory, sessionOf, Ready, Answers}
+use Rattle.memory.specs.Inner.{Ready, Answers}
+use Rattle.memory.specs.Memory.{Memory, sessionOf}
 use Rattle.memory.specs.CarriedLaws.{carried-same}
 use Rattle.run_lines.specs.Lines.{TextTask, TextAnswered}
 

@@ -18,7 +18,7 @@ use Rattle.state.specs.declared.Valued.{Valued}
 use Rattle.state.specs.declared.Valued.the-variants.{Value, Refused}
 use Rattle.minimum.specs.Number.{number}
 use Rattle.elimination.specs.Answer.{isTooLarge}
-use Rattle.fact_index.specs.Index.{indexedCount, Indexed}
+use Rattle.fact_index.specs.Inner.{indexedCount, Indexed}
 use Rattle.valuing.specs.Walks.{boundAnswer}
 use Rattle.valuing.proofs.CheckLaws.{lent-some}
 use Rattle.refusal.specs.Outcome.{Outcome, ok, refused}
@@ -31,7 +31,8 @@ use Rattle.session.specs.Replies.{valueSays, done}
 use Rattle.facts.specs.Words.{factsBase, indexBase, indexWords, part, liveOf}
 use Rattle.facts.specs.WordLaws.{index-all}
 use Rattle.memory.specs.declared.Numbers.{Numbers}
-use Rattle.memory.specs.Memory.{Memory, sessionOf, Ready, Answers}
+use Rattle.memory.specs.Inner.{Ready, Answers}
+use Rattle.memory.specs.Memory.{Memory, sessionOf}
 use Rattle.memory.specs.CarriedLaws.{carried-same}
 use Rattle.memory.specs.RunLaws.{run-holding}
 use Rattle.run_lines.specs.Lines.{ValueTask, ValueAnswered}

@@ -11,17 +11,20 @@ use Rattle.diagram.specs.Words.{isListing}
 use Rattle.state.specs.Lent.{factWords, isState}
 use Rattle.text.specs.declared.Kind.the-variants.{Start, Value, Backup, Cut, Reduce, Show, Text}
 use Rattle.session.specs.declared.Part.the-variants.{Run}
-use Rattle.facts.specs.Words.{factsBase, part, GoodLive, FactIndex}
-use Rattle.model.specs.Layout.{modelOf, Laid}
-use Rattle.planner.specs.declared.Held.{Held}
-use Rattle.planner.specs.Run.{Room, Callable}
+use Rattle.facts.specs.Inner.{FactIndex}
+use Rattle.facts.specs.Words.{factsBase, part, GoodLive}
+use Rattle.model.specs.Inner.{Laid}
+use Rattle.model.specs.Layout.{modelOf}
+use Rattle.planner.specs.declared.RunNumbers.{RunNumbers}
+use Rattle.planner.specs.Inner.{Room, Callable}
 use Rattle.spelling.specs.Spelling.{Named}
 use Rattle.memory.specs.declared.Numbers.{Numbers}
 use Rattle.memory.specs.declared.Said.{Said}
-use Rattle.memory.specs.Memory.{memoryOf, Ready, Answers}
+use Rattle.memory.specs.Inner.{Ready, Answers}
+use Rattle.memory.specs.Memory.{memoryOf}
 
 -- the numbers once the run holds h
-abbrev pub runningWith : Numbers → Held → Numbers
+abbrev pub runningWith : Numbers → RunNumbers → Numbers
 runningWith n h = record {
   part = Run;
   total = n .total;

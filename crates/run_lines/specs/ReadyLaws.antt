@@ -19,9 +19,10 @@ use Rattle.session.specs.Place.{ruleOf}
 use Rattle.session.specs.Replies.{isWhole, isPlaced, allowed}
 use Rattle.facts.specs.Words.{liveOf}
 use Rattle.model.specs.Layout.{modelOf}
-use Rattle.planner.specs.Run.{Room, ReplaceTask}
+use Rattle.planner.specs.Inner.{Room, ReplaceTask}
 use Rattle.memory.specs.declared.Numbers.{Numbers}
-use Rattle.memory.specs.Memory.{Memory, sessionOf, Stored, Ready, workWords}
+use Rattle.memory.specs.Inner.{Ready}
+use Rattle.memory.specs.Memory.{Memory, sessionOf, Stored, workWords}
 use Rattle.memory.specs.StoredLaws.{stored-reward}
 use Rattle.memory.specs.RunLaws.{in-run, unrefused, run-holding, run-within, stored-laid, run-laid, placed-state}
 use Rattle.run_lines.specs.Lines.{StartTask, ValueTask, BackupTask, TextTask}

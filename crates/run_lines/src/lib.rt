@@ -5,7 +5,7 @@ use cutting::Cut;
 use memory::Numbers;
 use memory::Said;
 use planner::Backed;
-use planner::Held;
+use planner::RunNumbers;
 use reduction::Reduced;
 use refusal::Refusal;
 use session::Part;
@@ -13,12 +13,12 @@ use spelling::Measured;
 use state::Valued;
 use weights::Weighed;
 ghost use mathlib.Core.Path.{_≡_};
-ghost use Rattle.planner.specs.Run.{ReplaceTask};
+ghost use Rattle.planner.specs.Inner.{ReplaceTask};
 ghost use Rattle.run_lines.specs.Lines.{runningWith, StartTask, ValueTask, BackupTask, TextTask};
 ghost use Rattle.run_lines.specs.Lines.{StartAnswered, ValueAnswered, BackupAnswered, CutAnswered, ReduceAnswered, ShowAnswered, TextAnswered};
 
 // The numbers once the run holds `held`.
-fn running(n: Numbers, held: Held) -> Numbers
+fn running(n: Numbers, held: RunNumbers) -> Numbers
     ensures { λ r. ⌜ r ≡ runningWith n held ⌝ }
 {
     let counts = n.counts;
@@ -54,7 +54,7 @@ pub fn start(
     match w {
         Weighed::Done => {
             let rows = planner::take_reward(listings, head, value);
-            let first = Held {
+            let first = RunNumbers {
                 rows: rows,
                 steps: 0,
                 power: 1,
@@ -130,7 +130,7 @@ pub fn backup(
     match r {
         Backed::Done(m, scale) => {
             let steps = k + 1;
-            let next = Held {
+            let next = RunNumbers {
                 rows: m,
                 steps: steps,
                 power: scale,
@@ -161,7 +161,7 @@ pub fn cut(number: u64, n: Numbers, arities: &[u64], value: &mut [u64], work: &m
     match r {
         Cut::Done(k, edge, m) => {
             write::copy(&left, m, value);
-            let next = Held {
+            let next = RunNumbers {
                 rows: m,
                 steps: steps,
                 power: power,
@@ -192,7 +192,7 @@ pub fn reduce(number: u64, n: Numbers, arities: &[u64], value: &mut [u64], work:
     match r {
         Reduced::Done(m) => {
             write::copy(&left, m, value);
-            let next = Held {
+            let next = RunNumbers {
                 rows: m,
                 steps: steps,
                 power: power,

@@ -29,7 +29,7 @@
 --
 -- Definitions: lines of the run
 --   cleared, objectsLine == (objects n)
---   placed, isLine == (is c o): a constant's object. In Replies placed is what follows once a line's place is judged
+--   placed, isLine == (is c o): a constant has its object
 --   withFact, begunAgain, sameWord, rowIs, isFact, factLine, predicateOf, trueLine == (true p o ..)
 --   stateIn, valueRead == (value): the state in hand, and the value diagram's number in it, or 15
 --   backupIs, cutIs, reduceIs == what an accepted (backup), (cut) or (reduce) is answered: k, rows; row, edge, rows left; rows (document 02, L13). Each is a call of mdp's run
@@ -45,6 +45,7 @@
 --   valueSays, callSays, textSays, bestSays, countSays, didSays == value, k, S^k; a call of the run; the bytes of the form; action and objects; objects and
 --       values; count and total
 --   done == what each kind of line does and is answered, where it stands where it may
+--   atPlace == what follows once the place of a line is judged
 --   replyTo, wordsOf, reply == 1, 5 or 20, then the line's own checks; a line in bytes, of which one of none passes (document 02, L1)
 --
 -- Definitions: texts

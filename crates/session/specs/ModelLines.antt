@@ -20,7 +20,7 @@ use Rattle.regression.specs.RegressCall.{leafAbove}
 use Rattle.events.specs.declared.Event.{Event}
 use Rattle.reading.specs.declared.Binding.{Binding}
 use Rattle.reading.specs.declared.Binding.the-variants.{Any, None, Only}
-use Rattle.reading.specs.Reading.{Names as ReadingNames, arguments, reading}
+use Rattle.reading.specs.Reading.{Environment, arguments, reading}
 use Rattle.reading.specs.Numbering.{rewardReading}
 use Rattle.reading.specs.Head.{headNumber, headArguments}
 use Rattle.build.specs.Machine.{built, builtClosed}
@@ -34,7 +34,7 @@ mostModelRows = 2048
 
 -- the names that a diagram of the line may have: a reward has no parameters, and numbers its variables itself; a weight and a truth diagram have those of the
 -- last action
-abbrev pub namesFor : Names → List ℕ → Binding → List Key → ReadingNames
+abbrev pub namesFor : Names → List ℕ → Binding → List Key → Environment
 namesFor n ar b ps = record {
   constants = n .constants;
   predicates = n .predicates;

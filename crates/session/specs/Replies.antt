@@ -154,13 +154,13 @@ done σ number K.Did es =
 done σ number K.Bad es = refusal σ number Form
 
 -- behind the place
-abbrev pub placed : Session → ℕ → Outcome (Unit {0}) → Reply → Reply
-placed σ number o after = answered σ number (λ u. after) o
+abbrev pub atPlace : Session → ℕ → Outcome (Unit {0}) → Reply → Reply
+atPlace σ number o after = answered σ number (λ u. after) o
 
 -- line `number` of a text is of a kind and has the words es: 1, 5 (for (best) also 20), then the line's own checks
 unfoldable pub replyTo : Session → ℕ → Kind → List Event → Reply
 unfolding allowed done
-replyTo σ number k es = placed σ number (allowed σ (ruleOf k (σ .part))) (done σ number k es)
+replyTo σ number k es = atPlace σ number (allowed σ (ruleOf k (σ .part))) (done σ number k es)
 
 -- the words behind the key word of a line of the kind k
 abbrev pub wordsOf : Kind → List ℕ → List Event

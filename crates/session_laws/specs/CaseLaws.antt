@@ -27,7 +27,7 @@ use Rattle.session.specs.Declaring.{constantLine, Vocabulary, predicateLine, wi
 use Rattle.session.specs.Facts.{objectsLine, isLine, trueLine}
 use Rattle.session.specs.ModelLines.{rewardLine, variantLine, becomesLine}
 use Rattle.session.specs.Running.{startLine, valueRead, backupIs, cutIs, reduceIs, formRead, bestRead, bestIs, countRead}
-use Rattle.session.specs.Replies.{Reply, refusal, silent, answered, callSays, allowed, done, placed, replyTo, wordsOf, reply}
+use Rattle.session.specs.Replies.{Reply, refusal, silent, answered, callSays, allowed, done, atPlace, replyTo, wordsOf, reply}
 use Rattle.session_laws.specs.LineAnswers.{didRead}
 
 abbrev pub vocabularyOf : Session → Vocabulary
@@ -68,7 +68,7 @@ module _ (σ : Session) (number : ℕ) (P : Reply → Type 0) (r : (t : Refusal)
   answered-by (ok a) h = h a refl
   answered-by (refused t) h = r t
 
-  pub placed-by : (o : Outcome (Unit {0})) (y : Reply) → (o ≡ ok tt → P y) → P (placed σ number o y)
+  pub placed-by : (o : Outcome (Unit {0})) (y : Reply) → (o ≡ ok tt → P y) → P (atPlace σ number o y)
   placed-by o y h = answered-by {f = λ u. y} o (λ u e. h e)
 
 -- ===== By the kind of a line =====

@@ -18,7 +18,8 @@ use Rattle.session.specs.Place.{ruleOf}
 use Rattle.session.specs.Session.{Session}
 use Rattle.session.specs.Replies.{Reply, allowed, wordsOf, reply}
 use Rattle.session.specs.Texts.{Progress, hasBytes, replied, afterLine, afterLines}
-use Rattle.session_laws.specs.TextRuns.{callOf, movesState, NoStateLine}
+use Rattle.session_laws.specs.Inner.{movesState, NoStateLine}
+use Rattle.session_laws.specs.TextRuns.{callOf}
 use Rattle.session_laws.specs.PlaceLaws.{model-run, in-model}
 use Rattle.session_laws.specs.CaseLaws.{Cases, done-by, reply-by}
 

@@ -63,6 +63,7 @@
 pub mod LineAnswers
 pub mod TextReplies
 pub mod TextRuns
+pub mod Inner
 pub mod PlaceLaws
 pub mod OpeningLaws
 pub mod StateLaws

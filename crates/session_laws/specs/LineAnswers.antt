@@ -1,12 +1,10 @@
 -- What a line is answered, and the session behind it, kind by kind (document 01, sections 'Text' and 'A run, whole'; document 02, L2, L9, L10, L11 and L13).
 use mathlib.Core.Path.{_≡_}
-use mathlib.Core.Bool.{true, false}
 use mathlib.Core.List.{List, [], _∷_, _++_}
-use Prim.Native.Nat.{ℕ, _+_, _*_, _^_, _≤_, _<_}
-use lib.ListN.{length, getD, drop}
+use Prim.Native.Nat.{ℕ, _^_}
+use lib.ListN.{length, drop}
 use Rattle.refusal.specs.declared.Refusal.{Refusal}
 use Rattle.diagram.specs.Rows.{rows}
-use Rattle.diagram.specs.Sizes.{mostRows}
 use Rattle.refusal.specs.Outcome.{Outcome, ok}
 use Rattle.cutting.specs.declared.Edge.{Edge}
 use Rattle.cutting.specs.declared.Cut.the-variants as C
@@ -14,19 +12,16 @@ use Rattle.cutting.specs.Cut.{diagramAnswer}
 use Rattle.mdp.specs.Model.{scale}
 use Rattle.mdp.specs.Bellman.{bellman}
 use Rattle.mdp.specs.Runs.{aBackup, aCut, aReduce, Held, call}
-use Rattle.state.specs.Max.{Tuple}
-use Rattle.best.specs.Moves.{Move, actionAt}
+use Rattle.best.specs.Moves.{Move}
 use Rattle.spread.specs.Spread.{Entry}
 use Rattle.text.specs.declared.Kind.{Kind}
 use Rattle.text.specs.declared.Kind.the-variants as K
-use Rattle.text.specs.Line.{lineBytes, mostLineBytes}
+use Rattle.text.specs.Line.{lineBytes}
 use Rattle.text.specs.Line.Line.{line}
-use Rattle.diagram_form.specs.Form.{isTooLong}
 use Rattle.events.specs.declared.Event.{Event}
 use Rattle.events.specs.Contents.{keyIn, numberIn, wordAt, keysIn, numbersIn}
 use Rattle.answers.specs.declared.Answer.the-variants as A
-use Rattle.answers.specs.Answers.{field, fields, nameField, lineFeed, lineEnd, bestHead, countHead, didHead}
-use Rattle.answers.specs.Writing.{IsWord}
+use Rattle.answers.specs.Answers.{field, lineEnd, countHead}
 use Rattle.session.specs.declared.Part.the-variants.{Run}
 use Rattle.session.specs.Place.{ruleOf}
 use Rattle.session.specs.Session.{Live, Session, withNames, withLive, withHeld}
@@ -34,9 +29,8 @@ use Rattle.session.specs.Declaring.{constantLine, predicateLine, withVocabulary
 use Rattle.session.specs.Facts.{objectsLine, isLine, trueLine}
 use Rattle.session.specs.ModelLines.{rewardLine, variantLine, becomesLine}
 use Rattle.session.specs.Replaying.{didLine}
-use Rattle.session.specs.Running.{startLine, stateIn, valueRead, backupIs, reduceIs, tablesIn, formRead, bestRead, noKey, bestIs, entriesIn, countRead}
-use Rattle.session.specs.Replies.{Reply, refusal, silent, isPlaced, allowed, wordsOf}
-use Rattle.session.specs.Texts.{valueForm, tableOf, replyBytes}
+use Rattle.session.specs.Running.{startLine, stateIn, valueRead, backupIs, reduceIs, formRead, bestRead, bestIs, countRead}
+use Rattle.session.specs.Replies.{Reply, refusal, silent, allowed, wordsOf}
 
 -- the outcome is accepted, and the session is made of it
 abbrev pub Makes : {A : Type 0} → Outcome A → (A → Session) → Session → Type 0
@@ -110,58 +104,8 @@ pub record IsValue (σ : Session) (v k w : ℕ) : Type 0 where
   pub steps : k ≡ σ .held .steps
   pub power : w ≡ scale (σ .model) ^ k
 
--- the reply y to an accepted (show): it stands in the run, answers the n rows of the value diagram, and leaves the session as it was
-pub record Shows (σ : Session) (n : ℕ) (y : Reply) : Type 0 where
-  pub run : σ .part ≡ Run
-  pub session : y .session ≡ σ
-  pub count : n ≡ length (rows (σ .held .diagram))
-
--- the reply y to an accepted (text): it stands in the run, prints the value as a form and a line feed, n bytes and one, and leaves the session as it was; the
--- form has at most 4,086 bytes, and is not too long to be a reward (19)
-pub record Prints (σ : Session) (n : ℕ) (y : Reply) : Type 0 where
-  pub run : σ .part ≡ Run
-  pub session : y .session ≡ σ
-  pub bytes : replyBytes y ≡ valueForm σ ++ lineFeed
-  pub count : n ≡ length (valueForm σ)
-  pub short : 9 + n ≤ mostLineBytes
-  pub fits : isTooLong (σ .model .arities) (tablesIn (σ .names)) (σ .held .diagram) ≡ false
-
--- the reply y to an accepted (best): it stands in the run, with every constant placed, answers the move x, which has an object of the state in hand for each
--- parameter of its action, prints `(best NAME o ..)`, the action's name as declared and these objects, and leaves the session as it was
-pub record PrintsMove (σ : Session) (x : Move) (y : Reply) : Type 0 where
-  pub run : σ .part ≡ Run
-  pub placed : isPlaced σ ≡ true
-  pub read : bestRead (σ .model) (σ .live) (σ .held .diagram) ≡ ok x
-  pub session : y .session ≡ σ
-  pub answer : y .answer ≡ bestIs (σ .names) x
-  pub objects : Tuple (σ .live .objects) (actionAt (σ .model) (x .action) .count) (x .objects)
-  pub bytes : replyBytes y ≡ bestHead ++ nameField (getD (σ .names .actions) (x .action) noKey) ++ fields (x .objects) ++ lineEnd
-
 -- the line of each entry, in order
 unfoldable pub entryLines : List Entry → List ℕ
 unfolding field
 entryLines [] = []
 entryLines (e ∷ es) = (countHead ++ field (e .value) ++ field (e .states) ++ lineEnd) ++ entryLines es
-
--- the reply y to an accepted (count n): it stands in the run, prints `(count value states)` for each of the m entries, at most 1,023, and leaves the session as it
--- was; the entries' words are machine words
-pub record PrintsCounts (σ : Session) (n m : ℕ) (y : Reply) : Type 0 where
-  pub run : σ .part ≡ Run
-  pub read : countRead (σ .model) (σ .names) (σ .live) (σ .held .diagram) n ≡ ok (entriesIn (σ .model) (σ .names) (σ .live) (σ .held .diagram) n)
-  pub session : y .session ≡ σ
-  pub bytes : replyBytes y ≡ entryLines (entriesIn (σ .model) (σ .names) (σ .live) (σ .held .diagram) n)
-  pub count : m ≡ length (entriesIn (σ .model) (σ .names) (σ .live) (σ .held .diagram) n)
-  pub few : m < mostRows
-  pub table : length (tableOf σ (A.Count n m)) ≡ m * 2
-  pub words : (i : ℕ) → IsWord (getD (tableOf σ (A.Count n m)) i 0)
-
--- the reply y to an accepted (did ..) with the words es: it stands in the run, with every constant placed, moves the state in hand to l and leaves all else of the
--- session as it was, and prints `(did count total)` of l, two machine words
-pub record PrintsReplay (σ : Session) (es : List Event) (l : Live) (y : Reply) : Type 0 where
-  pub run : σ .part ≡ Run
-  pub placed : isPlaced σ ≡ true
-  pub read : didRead σ es ≡ ok l
-  pub session : y .session ≡ withLive σ l
-  pub answer : y .answer ≡ A.Did (l .count) (l .total)
-  pub bytes : replyBytes y ≡ didHead ++ field (l .count) ++ field (l .total) ++ lineEnd
-  pub words : IsWord (l .count) × IsWord (l .total)

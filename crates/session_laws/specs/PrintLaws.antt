@@ -33,7 +33,8 @@ use Rattle.session.specs.Texts.{valueForm, tableOf, replyBytes}
 use Rattle.session.specs.Good.{GoodSession}
 use Rattle.session_laws.specs.PlaceLaws.{in-run, best-placed, did-placed, placed-objects}
 use Rattle.session_laws.specs.LineAnswers.{LineAnswered, quiet, valued, backed, cutting, reducing, showing, printing, moving, counting, replaying}
-use Rattle.session_laws.specs.LineAnswers.{OneAnswer, blank, refusing, accepted, didRead, Shows, Prints, PrintsMove, PrintsCounts, PrintsReplay}
+use Rattle.session_laws.specs.Inner.{Shows, Prints, PrintsMove, PrintsCounts, PrintsReplay}
+use Rattle.session_laws.specs.LineAnswers.{OneAnswer, blank, refusing, accepted, didRead}
 use Rattle.session_laws.specs.MoveLaws.{best-bound, action-few, tuple-length, four-taken}
 use Rattle.session_laws.specs.EntryLaws.{count-read, entry-count, entries-few, entries-words, entries-lines}
 use Rattle.session_laws.specs.ReplayLaws.{did-log}

@@ -35,7 +35,7 @@ use Rattle.session.specs.Session.{Session, opening, withHeld}
 use Rattle.session.specs.Declaring.{withVocabulary, withTotal, withDiscount, withAction}
 use Rattle.session.specs.ModelLines.{withReward, rewardRead, rewardLine, withVariant, weightRead, variantLine, truthsNow, withTruth, truthRead, becomesLine, weighed}
 use Rattle.session.specs.Running.{startLine, backupIs, cutIs, reduceIs}
-use Rattle.session.specs.Replies.{Reply, silent, allowed, callSays, done, placed, replyTo, wordsOf, reply}
+use Rattle.session.specs.Replies.{Reply, silent, allowed, callSays, done, atPlace, replyTo, wordsOf, reply}
 use Rattle.session.specs.Texts.{hasBytes, Progress, replied, afterLine, afterLines, beginning}
 use Rattle.session_laws.specs.TextReplies.{replies}
 use Rattle.session_laws.specs.TextRuns.{callOf, callThen, callsOf, isRefused, oneIfBackup, acceptedBackup, acceptedBackups, RunOf, HoldsValues}
@@ -113,7 +113,7 @@ module _ (σ : Session) (p : σ .part ≡ Run) (number : ℕ) where
   anywhere k q [] i = let e = ap (λ (j : Kind). ruleOf j Run) i ∙ q in let z : _≡_ {A = ℕ} 0 1 = cc in absurd (omega arith)
   anywhere k q (b ∷ t) i =
       ap (λ (j : Kind). replyTo σ number j (wordsOf j (b ∷ t))) i
-      ∙ ap (λ (o : Outcome (Unit {0})). placed σ number o (done σ number k (wordsOf k (b ∷ t)))) (ap (allowed σ) (ap (ruleOf k) p ∙ q))
+      ∙ ap (λ (o : Outcome (Unit {0})). atPlace σ number o (done σ number k (wordsOf k (b ∷ t)))) (ap (allowed σ) (ap (ruleOf k) p ∙ q))
 
   -- a line that is a call of the run: o is what it gives of the value diagram, j the steps behind it
   called : (k : Kind) (says : Held → Answer) (j : ℕ) (o : Outcome Diagram) → ((h : Held) → j ≡ σ .held .steps + acceptedBackup k (says h))

@@ -121,35 +121,3 @@ pub record RunOf (ls : List (List ℕ)) (σ : Session) : Type 0 where
   pub held : σ .held ≡ run (σ .model) (callsOf behind)
   pub steps : σ .held .steps ≡ acceptedBackups ls (replies opening 0 ls)
   pub values : HoldsValues σ
-
--- ===== What lines leave as it was =====
-
--- (objects n), (is c o), (true p o ..) and (did action variant o ..) change the state in hand, and no other line does (document 02, L10 for the last)
-abbrev pub movesState : Kind → Bool
-movesState K.Constant = false
-movesState K.Predicate = false
-movesState K.Total = false
-movesState K.Discount = false
-movesState K.Reward = false
-movesState K.Action = false
-movesState K.Variant = false
-movesState K.Becomes = false
-movesState K.Start = false
-movesState K.Objects = true
-movesState K.Is = true
-movesState K.True = true
-movesState K.Value = false
-movesState K.Backup = false
-movesState K.Cut = false
-movesState K.Show = false
-movesState K.Reduce = false
-movesState K.Text = false
-movesState K.Best = false
-movesState K.Count = false
-movesState K.Did = true
-movesState K.Bad = false
-
--- none of the lines does
-abbrev pub NoStateLine : List (List ℕ) → Type 0
-NoStateLine [] = Unit {0}
-NoStateLine (s ∷ ls) = (movesState (lineKind s) ≡ false) × NoStateLine ls

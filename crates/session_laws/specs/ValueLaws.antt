@@ -31,7 +31,7 @@ use Rattle.session.specs.declared.Part.the-variants.{Run}
 use Rattle.session.specs.Place.{ruleOf}
 use Rattle.session.specs.Session.{Session}
 use Rattle.session.specs.Running.{stateIn, valueRead}
-use Rattle.session.specs.Replies.{Reply, isPlaced, allowed, valueSays, done, placed, replyTo, wordsOf, reply}
+use Rattle.session.specs.Replies.{Reply, isPlaced, allowed, valueSays, done, atPlace, replyTo, wordsOf, reply}
 use Rattle.session.specs.Good.{GoodSession}
 use Rattle.session_laws.specs.TextRuns.{HoldsValues, tooLarge}
 use Rattle.session_laws.specs.PlaceLaws.{in-run, value-placed, value-allowed, placed-objects}
@@ -113,7 +113,7 @@ value-says : (σ : Session) (number : ℕ) (es : List Event) → allowed σ (rul
     → valueRead (σ .model .arities) (σ .live) (σ .held .diagram) ≡ ok v
     → replyTo σ number K.Value es ≡ record { session = σ; answer = A.Value v (σ .held .steps) (scale (σ .model) ^ σ .held .steps) }
 unfolding replyTo done
-value-says σ number es a v e = ap (λ o. placed σ number o (done σ number K.Value es)) a ∙ ap (valueSays σ number) e
+value-says σ number es a v e = ap (λ o. atPlace σ number o (done σ number K.Value es)) a ∙ ap (valueSays σ number) e
 
 value-few : (σ : Session) → tooLarge σ ≡ false
     → valueRead (σ .model .arities) (σ .live) (σ .held .diagram)

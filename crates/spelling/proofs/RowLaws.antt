@@ -17,7 +17,7 @@ use Rattle.diagram.specs.RowDiagrams.{leaf-row, branch-row}
 use Rattle.diagram.specs.DiagramOfListing.{valid-rows, shown-rows, diagram-is}
 use Rattle.answers.specs.declared.Put.the-variants.{At, Full}
 use Rattle.answers.specs.Digits.{digits}
-use Rattle.answers.specs.Writing.{Placed}
+use Rattle.answers.specs.Inner.{Placed}
 use Rattle.answering.specs.Wrote.{Wrote}
 use Rattle.answering.proofs.WriteLaws.{wrote-then, one-byte}
 use Rattle.answering.proofs.LineLaws.{placed-past, placed-short, placed-at}

@@ -18,7 +18,7 @@ ghost use Rattle.diagram.specs.Validity.{tree};
 ghost use Rattle.diagram.specs.Shown.{Shown};
 ghost use Rattle.names.specs.Layout.{constantsAt, declaredAt};
 ghost use Rattle.answers.specs.Digits.{digits};
-ghost use Rattle.answers.specs.Writing.{Placed};
+ghost use Rattle.answers.specs.Inner.{Placed};
 ghost use Rattle.answering.specs.Wrote.{Wrote};
 ghost use Rattle.diagram_form.specs.Form.{formLength, openBrackets};
 ghost use Rattle.spelling.specs.Spelling.{tablesAt, Named, measured, formLine};

@@ -19,21 +19,8 @@ use Rattle.diagram.specs.WordLaws.{lists-equal, equal-lists}
 use Rattle.diagram.specs.RowLaws.{same-tests}
 use Rattle.state.specs.Lent.{factWords, factCount, predicateAt, objectsAt, saysFact, someBelow, saidBy, stateOf}
 use Rattle.state.specs.LentLaws.{some-same}
-use Rattle.spread.specs.Ground.{
-  Ground,
-  ground,
-  sameGround,
-  groundFacts,
-  isGround,
-  groundCount,
-  bits,
-  numberOf,
-  chosen,
-  rowOf,
-  rowsOf,
-  lentChoice,
-  choiceState,
-}
+use Rattle.spread.specs.Inner.{sameGround, numberOf}
+use Rattle.spread.specs.Ground.{Ground, ground, groundFacts, isGround, groundCount, bits, chosen, rowOf, rowsOf, lentChoice, choiceState}
 use Rattle.spread.specs.GroundLaws.{ground-test, length-ground, mem-ground, ground-nodup}
 
 -- ===== Numbers and choices =====

@@ -1,10 +1,9 @@
 -- Ground facts and the states of n objects (document 02, L11).
 use mathlib.Core.Bool.{Bool, true, false, _&&_}
 use mathlib.Core.List.{List, [], _∷_, _++_, map}
-use Prim.Native.Nat.{ℕ, zero, suc, pred, _+_, _*_, _/_, _%_, _^_}
+use Prim.Native.Nat.{ℕ, zero, suc, pred, _+_, _/_, _%_, _^_}
 use lib.ListN.{length, getD}
 use lib.Dec.{eqb, ltb}
-use Rattle.diagram.specs.Words.{equalLists}
 use Rattle.state.specs.Max.{tuples}
 use Rattle.state.specs.State.{State}
 use Rattle.state.specs.Lent.{factRow, stateOf, allBelow}
@@ -16,9 +15,6 @@ mostGround = 16
 -- a ground fact: a predicate and its objects
 pub data Ground : Type 0 where
   ground : ℕ → List ℕ → Ground
-
-abbrev pub sameGround : Ground → Ground → Bool
-sameGround (ground p os) (ground q us) = eqb p q && equalLists os us
 
 -- f 0, then f 1, up to f (n - 1), one behind the other
 unfoldable pub joined : {A : Type 0} → ℕ → (ℕ → List A) → List A
@@ -48,12 +44,6 @@ groundCount ar (suc p) n = groundCount ar p n + n ^ getD ar (suc p) 0
 unfoldable pub bits : ℕ → ℕ → List Bool
 bits zero c = []
 bits (suc g) c = eqb (c % 2) 1 ∷ bits g (c / 2)
-
--- the number of a choice
-unfoldable pub numberOf : List Bool → ℕ
-numberOf [] = 0
-numberOf (true ∷ bs) = 1 + 2 * numberOf bs
-numberOf (false ∷ bs) = 2 * numberOf bs
 
 -- the facts that are chosen true
 unfoldable pub chosen : List Bool → List Ground → List Ground

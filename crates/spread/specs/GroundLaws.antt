@@ -17,7 +17,8 @@ use Rattle.state.specs.Lent.{someBelow, allBelow}
 use Rattle.state.specs.LentLaws.{some-found, some-made, some-none}
 use Rattle.state.specs.Max.{gather, tuples}
 use Rattle.state.specs.MaxLaws.{gather-last}
-use Rattle.spread.specs.Ground.{Ground, ground, sameGround, joined, factsOf, groundFacts, groundCount, isGround}
+use Rattle.spread.specs.Inner.{sameGround}
+use Rattle.spread.specs.Ground.{Ground, ground, joined, factsOf, groundFacts, groundCount, isGround}
 
 -- ===== Tests of equality =====
 pub list-test : IsTest equalLists

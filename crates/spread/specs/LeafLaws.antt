@@ -13,7 +13,7 @@ use Rattle.diagram.specs.Sizes.{mostRows}
 use Rattle.diagram.specs.Diagram.{Tree, leaf, branch, Diagram, eval, relabel, same}
 use Rattle.diagram.specs.DiagramLaws.{same-eq, diagram-test}
 use Rattle.diagram.specs.Rows.{rows}
-use Rattle.diagram.specs.RowLists.{isPart}
+use Rattle.diagram.specs.Inner.{isPart}
 use Rattle.diagram.specs.RowLaws.{part-self, part-high, part-low, mem-rows}
 use Rattle.diagram.specs.Words.{isListing}
 use Rattle.diagram.specs.Listing.{diagramOf}

@@ -19,7 +19,8 @@ use Rattle.state.specs.Max.{sumOf}
 use Rattle.state.specs.State.{Good}
 use Rattle.state.specs.Lent.{factCount, predicateAt, objectsAt, allBelow, namesBelow, constantsBelow, isState}
 use Rattle.elimination.specs.AnswerLaws.{lent-good}
-use Rattle.spread.specs.Ground.{mostGround, Ground, ground, sameGround, groundFacts, isGround, groundCount, bits, chosen, rowOf, rowsOf, lentChoice, choiceState}
+use Rattle.spread.specs.Inner.{sameGround}
+use Rattle.spread.specs.Ground.{mostGround, Ground, ground, groundFacts, isGround, groundCount, bits, chosen, rowOf, rowsOf, lentChoice, choiceState}
 use Rattle.spread.specs.Spread.{valueIn, entriesOf, someTooLarge, spread}
 use Rattle.spread.specs.SpreadLaws.{entries-sum}
 use Rattle.spread.specs.GroundLaws.{ground-test, mem-ground}

@@ -29,6 +29,7 @@
 
 -- definitions
 pub mod Ground
+pub mod Inner
 pub mod Spread
 -- laws
 pub mod SpreadLaws

@@ -7,13 +7,9 @@ use lib.ListN.{getD}
 use lib.Dec.{ltb, eqb}
 use Rattle.label.specs.Limits.{firstVariable}
 use Rattle.diagram.specs.Diagram.{Tree, leaf, branch}
-use Rattle.state.specs.Max.{IsMax, maxTo}
-use Rattle.state.specs.State.{Atomic, State, value, low, fixed, Fits}
+use Rattle.state.specs.Max.{maxTo}
+use Rattle.state.specs.State.{Atomic, State, value, low, fixed}
 use Rattle.state.specs.Terms.{args}
-
--- x is the highest leaf of d over all valuations of s, with the objects os for the parameters: attained, and nothing above
-abbrev pub Highest : State → List ℕ → Tree Atomic → ℕ → Type 0
-Highest s os d x = IsMax (Fits s os) (value s d) x
 
 -- θ with the object o for v
 unfoldable pub put : (ℕ → ℕ) → ℕ → ℕ → ℕ → ℕ

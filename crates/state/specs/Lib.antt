@@ -45,6 +45,7 @@ pub mod State
 pub mod Terms
 pub mod Next
 pub mod Highest
+pub mod Inner
 pub mod Lent
 pub mod ValueCall
 pub mod MaxLaws

@@ -1,20 +1,8 @@
 -- The highest value of a function over a part of a type, maxima that compute, and tuples of objects (document 01, sections 'States and value' and 'Backup').
-use mathlib.Core.Path.{_≡_}
 use mathlib.Core.Bool.{Bool, cond}
 use mathlib.Core.List.{List, [], _∷_, _++_, map}
-use Prim.Native.Nat.{ℕ, zero, suc, _+_, _≤_, _<_, max}
+use Prim.Native.Nat.{ℕ, zero, suc, _+_, _<_, max}
 use Rattle.diagram.specs.Words.{upTo}
-
--- x is the highest value of f on P: attained, and nothing above
-pub record IsMax {X : Type 0} (P : X → Type 0) (f : X → ℕ) (x : ℕ) : Type 0 where
-  pub point : X
-  pub inside : P point
-  pub value : f point ≡ x
-  pub bound : (a : X) → P a → f a ≤ x
-
--- each value of f on P is met or passed by a value of g on Q
-abbrev pub Below : {X Y : Type 0} (P : X → Type 0) (f : X → ℕ) (Q : Y → Type 0) (g : Y → ℕ) → Type 0
-Below {X} {Y} P f Q g = (a : X) → P a → (b : Y) × Q b × (f a ≤ g b)
 
 -- the highest of f 0 .. f (n - 1); 0 if there is none
 unfoldable pub maxTo : ℕ → (ℕ → ℕ) → ℕ

@@ -7,7 +7,8 @@ use native.Mathlib.Omega.{arith}
 use native.Mathlib.Nat.{le-trans, le-refl, le-of-eq}
 use lib.Dec.{leb}
 use borrow.Author.Tests.{leb-true, leb-false}
-use Rattle.state.specs.Max.{IsMax, Below, maxTo, Tuple, none, more, gather, maxTuples}
+use Rattle.state.specs.Inner.{IsMax, Below}
+use Rattle.state.specs.Max.{maxTo, Tuple, none, more, gather, maxTuples}
 
 module _ {X Y : Type 0} {P : X → Type 0} {f : X → ℕ} {Q : Y → Type 0} {g : Y → ℕ} where
   pub max-by : {x : ℕ} → IsMax P f x → Below P f Q g → Below Q g P f → IsMax Q g x

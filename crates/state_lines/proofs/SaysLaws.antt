@@ -10,7 +10,8 @@ use Rattle.text.specs.declared.Kind.{Kind}
 use Rattle.text.specs.declared.Kind.the-variants.{Objects, Is, True}
 use Rattle.events.specs.declared.Next.{Next}
 use Rattle.events.specs.Events.{firstWord}
-use Rattle.events.specs.Front.{nextAt, eventsOf}
+use Rattle.events.specs.Inner.{nextAt}
+use Rattle.events.specs.Front.{eventsOf}
 use Rattle.events.specs.Contents.{keyIn, numberIn, wordAt, numbersIn}
 use Rattle.answers.specs.declared.Answer.the-variants.{Refused as RefusedAs, Nothing}
 use Rattle.session.specs.Session.{Live as SessionLive, withLive}
@@ -21,9 +22,11 @@ use Rattle.facts.specs.declared.Live.{Live}
 use Rattle.facts.specs.declared.Told.{Told}
 use Rattle.facts.specs.declared.Told.the-variants.{Done, Refused}
 use Rattle.facts.specs.declared.Tuple.{Tuple}
-use Rattle.facts.specs.Words.{liveOf, FactIndex, Lives, Living, Placing, TupleOf, Telling}
+use Rattle.facts.specs.Inner.{FactIndex, Lives, Living, Placing, TupleOf, Telling}
+use Rattle.facts.specs.Words.{liveOf}
 use Rattle.memory.specs.declared.Numbers.{Numbers}
-use Rattle.memory.specs.Memory.{memoryOf, sessionOf, Ready, Answers, withState}
+use Rattle.memory.specs.Inner.{Ready, Answers, withState}
+use Rattle.memory.specs.Memory.{memoryOf, sessionOf}
 use Rattle.memory.specs.StoredLaws.{stored-state}
 use Rattle.memory.specs.WordLaws.{first-is, second-is, rest-is}
 use Rattle.memory.specs.CarriedLaws.{carried-on}

@@ -4,7 +4,8 @@ use mathlib.Core.List.{List}
 use Prim.Native.Nat.{ℕ}
 use Rattle.text.specs.declared.Kind.the-variants.{Objects, Is, True}
 use Rattle.memory.specs.declared.Numbers.{Numbers}
-use Rattle.memory.specs.Memory.{memoryOf, Ready}
+use Rattle.memory.specs.Inner.{Ready}
+use Rattle.memory.specs.Memory.{memoryOf}
 use Rattle.memory.specs.RunLaws.{some-objects}
 use Rattle.memory.specs.WordLaws.{line-begins, line-ends}
 use Rattle.state_lines.specs.Lines.{ForObjects, ForIs, ForTrue}

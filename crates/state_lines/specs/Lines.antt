@@ -6,10 +6,12 @@ use lib.ListN.{length}
 use Rattle.text.specs.declared.Kind.the-variants.{Objects, Is, True}
 use Rattle.events.specs.Events.{firstWord}
 use Rattle.declare.specs.Tables.{GoodNames, GoodVocabulary}
-use Rattle.facts.specs.Words.{mostBytes, GoodLive, FactIndex}
+use Rattle.facts.specs.Inner.{mostBytes, FactIndex}
+use Rattle.facts.specs.Words.{GoodLive}
 use Rattle.memory.specs.declared.Numbers.{Numbers}
 use Rattle.memory.specs.declared.Said.{Said}
-use Rattle.memory.specs.Memory.{memoryOf, Ready, Answers}
+use Rattle.memory.specs.Inner.{Ready, Answers}
+use Rattle.memory.specs.Memory.{memoryOf}
 
 -- ===== (objects n) =====
 

@@ -14,7 +14,8 @@ use Rattle.basics.specs.Tests.{Flag, isTrue, isFalse, flag, Cmp, cmp, below, eq
 use Rattle.basics.specs.Prefix.{Prefix, prefix-refl, prefix-trans, prefix-snoc}
 use Rattle.label.specs.Limits.{leafMark}
 use Rattle.label.specs.Labels.{packed}
-use Rattle.label.specs.Renamings.{mapOf, renamed}
+use Rattle.label.specs.Inner.{mapOf}
+use Rattle.label.specs.Renamings.{renamed}
 use Rattle.label.specs.Callers.{Movable, Packable}
 use Rattle.label.proofs.CodeLaws.{replaced-is, under-all}
 use Rattle.label.specs.declared.Atom.{Atom}

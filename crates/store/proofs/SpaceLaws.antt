@@ -28,13 +28,15 @@ use Rattle.diagram.specs.WordLaws.{length-upTo, map-snoc, getD-map, getD-upTo}
 use Rattle.diagram.specs.Listing.{index}
 use Rattle.diagram.specs.ListingLaws.{index-new, index-less, getD-index}
 use Rattle.diagram.specs.Validity.{tree}
-use Rattle.diagram.specs.RowLists.{rowTree, Written, SameRows}
+use Rattle.diagram.specs.Inner.{Written, SameRows}
+use Rattle.diagram.specs.RowLists.{rowTree}
 use Rattle.diagram.specs.RowLaws.{kept-index-is, row-mem}
 use Rattle.diagram.specs.Shown.{Shown, reads}
 use Rattle.diagram.specs.WrittenRows.{written-shown, rows-places, written-none, written-leaf, written-branch, leaf-found, branch-found, leaf-missing, branch-missing}
 use Rattle.apply.specs.Apply.{node}
 use Rattle.apply.specs.ApplyLaws.{node-same, node-differ}
-use Rattle.apply.specs.Formed.{add, ClosedRows}
+use Rattle.apply.specs.Inner.{ClosedRows}
+use Rattle.apply.specs.Formed.{add}
 use Rattle.apply.specs.FormedLaws.{add-old, add-new}
 use Rattle.store.specs.declared.Formed.{Formed}
 use Rattle.store.specs.declared.Formed.the-variants.{Row, Full}

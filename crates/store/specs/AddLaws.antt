@@ -9,9 +9,10 @@ use Rattle.basics.specs.Prefix.{Prefix, prefix-refl, prefix-trans, mem-prefix}
 use Rattle.diagram.specs.Diagram.{Diagram, leaf, branch, same, relabel}
 use Rattle.diagram.specs.Rows.{onto, rows}
 use Rattle.diagram.specs.DiagramLaws.{same-eq, onto-old, onto-leaf, onto-branch}
-use Rattle.diagram.specs.RowLists.{Kept}
+use Rattle.diagram.specs.Inner.{Kept}
 use Rattle.diagram.specs.RowLaws.{onto-fresh, kept-children}
-use Rattle.apply.specs.Formed.{add, ClosedRows}
+use Rattle.apply.specs.Inner.{ClosedRows}
+use Rattle.apply.specs.Formed.{add}
 use Rattle.apply.specs.FormedLaws.{add-old, add-new, add-mem, add-begins, add-leaf}
 use Rattle.apply.specs.RowLaws.{onto-closed, rows-onto}
 use Rattle.store.specs.Space.{addAll}

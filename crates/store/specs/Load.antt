@@ -7,7 +7,8 @@ use Prim.Native.Nat.{ℕ, _≤_, _<_}
 use lib.ListN.{length, getD}
 use lib.Dec.{eqb}
 use Rattle.label.specs.Limits.{leafMark}
-use Rattle.label.specs.Renamings.{mapOf, renamed}
+use Rattle.label.specs.Inner.{mapOf}
+use Rattle.label.specs.Renamings.{renamed}
 use Rattle.label.specs.Callers.{TermMap}
 use Rattle.table.specs.declared.Row.{Row as TableRow}
 use Rattle.diagram.specs.Diagram.{Diagram, relabel}

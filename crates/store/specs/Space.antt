@@ -14,7 +14,7 @@ use Rattle.diagram.specs.Diagram.{Diagram, leaf, branch}
 use Rattle.diagram.specs.Words.{upTo}
 use Rattle.diagram.specs.Listing.{index}
 use Rattle.diagram.specs.Validity.{tree}
-use Rattle.diagram.specs.RowLists.{Written}
+use Rattle.diagram.specs.Inner.{Written}
 use Rattle.apply.specs.Formed.{add}
 use Rattle.store.specs.declared.Formed.{Formed}
 use Rattle.store.specs.declared.Formed.the-variants.{Row, Full}

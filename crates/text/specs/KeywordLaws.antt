@@ -12,7 +12,8 @@ use Rattle.words.specs.Keys.{little, keyOf}
 use Rattle.words.specs.declared.Key.{Key}
 use Rattle.text.specs.declared.Kind.{Kind}
 use Rattle.text.specs.declared.Kind.the-variants as K
-use Rattle.text.specs.Line.{kinds, isBad, keyword, Words}
+use Rattle.text.specs.Inner.{kinds}
+use Rattle.text.specs.Line.{isBad, keyword, Words}
 use Rattle.text.specs.LineForm.{isKey, kindIn, kindOf}
 
 -- each key word is a name, and its key gives its kind

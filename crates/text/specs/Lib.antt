@@ -26,6 +26,7 @@
 --   line-complete: what a well-formed line writes is accepted; line-sound: what is accepted is written by one
 
 pub mod Line
+pub mod Inner
 pub mod LineForm
 pub mod KeywordLaws
 pub mod ShapeLaws

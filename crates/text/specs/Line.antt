@@ -49,13 +49,6 @@ formOf K.Count = (99 ∷ 111 ∷ 117 ∷ 110 ∷ 116 ∷ [], One Number)
 formOf K.Did = (100 ∷ 105 ∷ 100 ∷ [], Paired Number)
 formOf K.Bad = ([], Never)
 
--- all of them but Bad
-abbrev pub kinds : List Kind
-kinds =
-    K.Constant ∷ K.Predicate ∷ K.Total ∷ K.Discount ∷ K.Reward ∷ K.Action ∷ K.Variant ∷ K.Becomes ∷
-    K.Start ∷ K.Objects ∷ K.Is ∷ K.True ∷ K.Value ∷ K.Backup ∷ K.Cut ∷ K.Show ∷ K.Reduce ∷ K.Text ∷ K.Best ∷
-    K.Count ∷ K.Did ∷ []
-
 abbrev pub keyword : Kind → List ℕ
 keyword k = formOf k .0
 

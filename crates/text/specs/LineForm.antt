@@ -4,7 +4,7 @@ use mathlib.Core.List.{List, [], _∷_}
 use mathlib.Core.Bool.{Bool, cond, _&&_}
 use lib.Dec.{leb, eqb}
 use lib.ListN.{getD, take, drop, length}
-use Rattle.words.specs.Words.{nameForm}
+use Rattle.words.specs.Inner.{nameForm}
 use Rattle.words.specs.Keys.{keyOf}
 use Rattle.words.specs.declared.Key.{Key}
 use Rattle.words.specs.declared.Took.{Took}
@@ -16,7 +16,8 @@ use Rattle.text.specs.declared.Shape.{Shape}
 use Rattle.text.specs.declared.Shape.the-variants.{Nothing, One, Two, Listed, Paired, Drawn, Named, Headed, Never}
 use Rattle.text.specs.declared.Kind.{Kind}
 use Rattle.text.specs.declared.Kind.the-variants.{Bad}
-use Rattle.text.specs.Line.{mostLineBytes, kinds, keyword, shapeOf}
+use Rattle.text.specs.Inner.{kinds}
+use Rattle.text.specs.Line.{mostLineBytes, keyword, shapeOf}
 
 -- the two keys are one
 unfoldable pub isKey : Key → Key → Bool

@@ -9,7 +9,7 @@ use lib.ListN.{length, getD, take, drop, length-append, length-drop, take-append
 use lib.Seq.{take-all, take-at, drop-at}
 use borrow.Author.Tests.{eqb-true, eq-eqb, le-leb, leb-true}
 use Rattle.basics.specs.Tests.{Flag, isTrue, isFalse, flag}
-use Rattle.words.specs.Words.{nameForm}
+use Rattle.words.specs.Inner.{nameForm}
 use Rattle.words.specs.WordLaws.{name-sound, name-complete}
 use Rattle.words.specs.Keys.{keyOf}
 use Rattle.words.specs.KeyLaws.{name-key}

@@ -4,22 +4,19 @@ use mathlib.Core.Bool.{true, false}
 use mathlib.Core.List.{List, [], _∷_, _++_}
 use Prim.Native.Nat.{ℕ, _<_}
 use lib.ListN.{length, getD}
-use Rattle.refusal.specs.declared.Refusal.{Refusal}
-use Rattle.refusal.specs.declared.Refusal.the-variants.{Place, Missing}
 use Rattle.state.specs.State.{State}
 use Rattle.words.specs.declared.Key.{Key}
 use Rattle.best.specs.Moves.{Move}
-use Rattle.best.specs.Claims.{StepsBy, Stopped}
+use Rattle.best.specs.Claims.{StepsBy}
 use Rattle.text.specs.declared.Kind.the-variants as K
 use Rattle.text.specs.Line.{Words, lineBytes, GoodLine}
 use Rattle.text.specs.Line.Line.{line}
 use Rattle.answers.specs.Answers.{bestHead, nameField, fields, lineEnd}
-use Rattle.session.specs.declared.Part.the-variants.{Model as ModelPart, Run}
+use Rattle.session.specs.declared.Part.the-variants.{Run}
 use Rattle.session.specs.Session.{Session, opening}
 use Rattle.session.specs.Running.{stateIn, noKey}
-use Rattle.session.specs.Replies.{Reply, isPlaced, refusal, reply}
+use Rattle.session.specs.Replies.{Reply, isPlaced}
 use Rattle.session.specs.Texts.{replyBytes}
-use Rattle.session_laws.specs.LineAnswers.{valueLine}
 use Rattle.session_laws.specs.TextReplies.{replies}
 use Rattle.session_laws.specs.TextRuns.{isRefused}
 
@@ -49,14 +46,6 @@ pub record MovesBy (σ : Session) (x : Move) (y : Reply) : Type 0 where
   pub bytes : replyBytes y ≡ bestHead ++ nameField (nameIn σ x) ++ fields (x .objects) ++ lineEnd
   pub declared : x .action < length (σ .names .actions)
   pub steps : StepsBy (σ .model) (σ .held .steps) (inHand σ) x
-
--- ===== What refuses it =====
-
--- r is what refuses (best) in the session σ: 5 in the model part; 20 where (value) is answered 5; then as the first action that does not pass stops
-pub data RefusesBest (σ : Session) : Refusal → Type 0 where
-  in-model : σ .part ≡ ModelPart → RefusesBest σ Place
-  missing : σ .part ≡ Run → ((number : ℕ) → reply σ number valueLine ≡ refusal σ number Place) → RefusesBest σ Missing
-  stopping : {r : Refusal} → σ .part ≡ Run → isPlaced σ ≡ true → Stopped (σ .model) (inHand σ) (σ .held .diagram) (σ .model .actions) r → RefusesBest σ r
 
 -- ===== The name declared =====
 

@@ -25,6 +25,7 @@
 
 -- definitions
 pub mod Claims
+pub mod Inner
 -- laws
 pub mod LineLaws
 pub mod MoveLaws

@@ -15,7 +15,7 @@ use Rattle.minimum.specs.Number.{number}
 use Rattle.elimination.specs.Answer.{isTooLarge}
 use Rattle.mdp.specs.Model.{Every}
 use Rattle.best.specs.Moves.{Move}
-use Rattle.best.specs.Claims.{Passes}
+use Rattle.best.specs.Inner.{Passes}
 use Rattle.best.specs.RefusalLaws.{stopped-refused, refused-stopped, passes-answered, answered-passes}
 use Rattle.best.specs.NumberLaws.{best-not-scale}
 use Rattle.text.specs.declared.Kind.{Kind}
@@ -31,9 +31,10 @@ use Rattle.session.specs.declared.Part.the-variants.{Model as ModelPart, Run}
 use Rattle.session.specs.Place.{ruleOf}
 use Rattle.session.specs.Session.{Live, Session, refuseIf}
 use Rattle.session.specs.Running.{stateIn, bestRead, bestIs, valueRead}
-use Rattle.session.specs.Replies.{Reply, isPlaced, allowed, unless, refusal, bestSays, valueSays, done, placed, replyTo, wordsOf, reply}
+use Rattle.session.specs.Replies.{Reply, isPlaced, allowed, unless, refusal, bestSays, valueSays, done, atPlace, replyTo, wordsOf, reply}
 use Rattle.session_laws.specs.LineAnswers.{valueLine}
-use Rattle.text_moves.specs.Claims.{bestLine, backupLine, inHand, RefusesBest, in-model, missing, stopping}
+use Rattle.text_moves.specs.Inner.{RefusesBest, in-model, missing, stopping}
+use Rattle.text_moves.specs.Claims.{bestLine, backupLine, inHand}
 
 -- ===== The line =====
 
@@ -61,21 +62,21 @@ value-large ar l d r e = go (isTooLarge ar (stateIn ar l) [] (listing d)) e
     go false f = let z : _≡_ {A = ℕ} 0 1 = cc in absurd (omega arith)
 
 module _ (σ : Session) (number : ℕ) where
-  best-reply : reply σ number bestLine ≡ placed σ number (allowed σ (ruleOf K.Best (σ .part))) (bestSays σ number (bestRead (σ .model) (σ .live) (σ .held .diagram)))
+  best-reply : reply σ number bestLine ≡ atPlace σ number (allowed σ (ruleOf K.Best (σ .part))) (bestSays σ number (bestRead (σ .model) (σ .live) (σ .held .diagram)))
   unfolding reply replyTo done
   best-reply = ap (λ (k : Kind). replyTo σ number k (wordsOf k bestLine)) best-kind
 
-  value-reply : reply σ number valueLine ≡ placed σ number (allowed σ (ruleOf K.Value (σ .part))) (valueSays σ number (valueRead (σ .model .arities) (σ .live) (σ .held .diagram)))
+  value-reply : reply σ number valueLine ≡ atPlace σ number (allowed σ (ruleOf K.Value (σ .part))) (valueSays σ number (valueRead (σ .model .arities) (σ .live) (σ .held .diagram)))
   unfolding reply replyTo done
   value-reply = ap (λ (k : Kind). replyTo σ number k (wordsOf k valueLine)) value-kind
 
   best-at : (o : Outcome (Unit {0})) → allowed σ (ruleOf K.Best (σ .part)) ≡ o
-      → reply σ number bestLine ≡ placed σ number o (bestSays σ number (bestRead (σ .model) (σ .live) (σ .held .diagram)))
-  best-at o e = best-reply ∙ ap (λ (u : Outcome (Unit {0})). placed σ number u (bestSays σ number (bestRead (σ .model) (σ .live) (σ .held .diagram)))) e
+      → reply σ number bestLine ≡ atPlace σ number o (bestSays σ number (bestRead (σ .model) (σ .live) (σ .held .diagram)))
+  best-at o e = best-reply ∙ ap (λ (u : Outcome (Unit {0})). atPlace σ number u (bestSays σ number (bestRead (σ .model) (σ .live) (σ .held .diagram)))) e
 
   value-at : (o : Outcome (Unit {0})) → allowed σ (ruleOf K.Value (σ .part)) ≡ o
-      → reply σ number valueLine ≡ placed σ number o (valueSays σ number (valueRead (σ .model .arities) (σ .live) (σ .held .diagram)))
-  value-at o e = value-reply ∙ ap (λ (u : Outcome (Unit {0})). placed σ number u (valueSays σ number (valueRead (σ .model .arities) (σ .live) (σ .held .diagram)))) e
+      → reply σ number valueLine ≡ atPlace σ number o (valueSays σ number (valueRead (σ .model .arities) (σ .live) (σ .held .diagram)))
+  value-at o e = value-reply ∙ ap (λ (u : Outcome (Unit {0})). atPlace σ number u (valueSays σ number (valueRead (σ .model .arities) (σ .live) (σ .held .diagram)))) e
 
   -- ===== Its place =====
 

@@ -33,10 +33,12 @@ use Rattle.session_laws.specs.LineAnswers.{OneAnswer, blank, refusing, accepted
 use Rattle.session_laws.specs.AnswerLaws.{one-answer}
 use Rattle.session_laws.specs.FoldLaws.{lines-count, after-then}
 use Rattle.session_laws.specs.KeepLaws.{lines-keep}
-use Rattle.session_laws.specs.TextRuns.{callsOf, RunOf, movesState, NoStateLine}
+use Rattle.session_laws.specs.Inner.{movesState, NoStateLine}
+use Rattle.session_laws.specs.TextRuns.{callsOf, RunOf}
 use Rattle.session_laws.specs.PrintLaws.{reply-moves}
 use Rattle.session_laws.specs.TextLaws.{Sound, text-sound, text-run, text-bellman}
-use Rattle.text_moves.specs.Claims.{bestLine, backupLine, inHand, MovesBy, RefusesBest, in-model, missing, stopping}
+use Rattle.text_moves.specs.Inner.{RefusesBest, in-model, missing, stopping}
+use Rattle.text_moves.specs.Claims.{bestLine, backupLine, inHand, MovesBy}
 use Rattle.text_moves.specs.LineLaws.{best-kind, backup-kind, best-refuses}
 use Rattle.text_moves.specs.MoveLaws.{answered-steps}
 

@@ -14,9 +14,10 @@ use Rattle.session.specs.Session.{Live, Names, Session, opening}
 use Rattle.session.specs.Replies.{eachPlaced, isPlaced, reply}
 use Rattle.session.specs.Texts.{hasBytes, Progress, replied, afterLine, afterLines, beginning}
 use Rattle.session_laws.specs.TextReplies.{replies}
-use Rattle.session_laws.specs.TextRuns.{movesState}
+use Rattle.session_laws.specs.Inner.{movesState}
 use Rattle.session_laws.specs.KeepLaws.{line-keeps}
-use Rattle.text_replays.specs.Claims.{reached, repliesAfter, AcceptedAs, Stands, NoObjects}
+use Rattle.text_replays.specs.Inner.{NoObjects}
+use Rattle.text_replays.specs.Claims.{reached, repliesAfter, AcceptedAs, Stands}
 use Rattle.text_replays.specs.KeepLaws.{StateEffect, stays, clears, places, tells, does, effect}
 use Rattle.text_replays.specs.FoldLaws.{behind-both, behind-line, replies-are}
 

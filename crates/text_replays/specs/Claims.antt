@@ -14,8 +14,8 @@ use Rattle.state.specs.State.{State}
 use Rattle.state.specs.Lent.{factCount, mostFacts}
 use Rattle.elimination.specs.Answer.{isTooLarge}
 use Rattle.mdp.specs.Bellman.{weightIn, rewardIn}
-use Rattle.replay.specs.Replay.{Did, noAction, actionOf, variantOf, factRows, stateNext}
-use Rattle.replay.specs.Along.{rewardsAlong, Alike, Comes}
+use Rattle.replay.specs.Replay.{Did, actionOf, variantOf, factRows, stateNext}
+use Rattle.replay.specs.Along.{Alike, Comes}
 use Rattle.words.specs.Bytes.{decimal}
 use Rattle.words.specs.Keys.{keyOf}
 use Rattle.names.specs.Keys.{isAmong}
@@ -66,12 +66,6 @@ Undisturbed [] ys = Unit {0}
 Undisturbed (s ∷ ls) [] = ⊥
 Undisturbed (s ∷ ls) (y ∷ ys) = (AcceptedAs K.Objects s y → ⊥) × (AcceptedAs K.Is s y → ⊥) × (AcceptedAs K.True s y → ⊥) × Undisturbed ls ys
 
--- none of them is an accepted (objects n)
-abbrev pub NoObjects : List (List ℕ) → List Reply → Type 0
-NoObjects [] ys = Unit {0}
-NoObjects (s ∷ ls) [] = ⊥
-NoObjects (s ∷ ls) (y ∷ ys) = (AcceptedAs K.Objects s y → ⊥) × NoObjects ls ys
-
 -- ds are the accepted (did action variant object ..) lines among the lines, with their replies, in order, with the names that τ has
 pub data Logs (τ : Session) : List (List ℕ) → List Reply → List Did → Type 0 where
   none : Logs τ [] [] []
@@ -92,18 +86,6 @@ LogOf before log ds = Logs (reached (before ++ log)) log (repliesAfter before lo
 -- and total is the sum of rewards along it' (replay, Comes: and 0 with none accepted): behind the lines `before` and `log`, from the state in hand behind `before` on
 abbrev pub Replays : List (List ℕ) → List (List ℕ) → List Did → Type 0
 Replays before log ds = Comes (reached (before ++ log) .model) (stateBefore before log) ds (replayIn (reached (before ++ log) .live))
-
--- the lines are `before`, which leave count 0, and `log`, of which none is an accepted (objects n), (is c o) or (true p o ..)
-pub record Begins (ls : List (List ℕ)) : Type 0 where
-  pub before : List (List ℕ)
-  pub log : List (List ℕ)
-  pub lines : ls ≡ before ++ log
-  pub begun : reached before .live .count ≡ 0
-  pub undisturbed : Undisturbed log (repliesAfter before log)
-
--- '(did count total)': what is printed where ds are the lines accepted since the state s, this one the last of them
-abbrev pub didPrints : Session → State → List Did → List ℕ
-didPrints σ s ds = didHead ++ field (length ds) ++ field (rewardsAlong (σ .model) s ds) ++ lineEnd
 
 -- ===== When it is accepted, and what it does =====
 
@@ -139,10 +121,6 @@ nextOf σ w = stateNext (σ .model) (inHand σ) (didIn σ w)
 
 abbrev pub factsOfNext : Session → Words K.Did → ℕ
 factsOfNext σ w = length (factRows (σ .model .arities) (nextOf σ w))
-
--- no fact of a predicate that is not declared is true in the state: 22 counts facts of declared predicates alone
-abbrev pub NoneUndeclared : Session → State → Type 0
-NoneUndeclared σ s = (p : ℕ) (os : List ℕ) → length (σ .names .predicates) < p → s .fact p os ≡ false
 
 -- 15 of the reward in a state
 abbrev pub TooLargeIn : Session → State → Type 0
@@ -219,21 +197,11 @@ noLines = record { action = ([], []); variants = [] }
 abbrev pub DeclarationsOf : List (List ℕ) → List ActionLines → Type 0
 DeclarationsOf ls xs = Declarations ls (replies opening 0 ls) [] xs
 
--- the session behind the lines has these: its actions are the accepted (action ..) lines, each with as many parameters and the same variants
-pub record DeclaredBy (ls : List (List ℕ)) (xs : List ActionLines) : Type 0 where
-  pub actions : reached ls .names .actions ≡ map (λ x. keyOf (x .action .0)) xs
-  pub parameters : (a : ℕ) → getD (reached ls .model .actions) a noAction .count ≡ length (getD xs a noLines .action .1)
-  pub variants : (a : ℕ) → variantNames (reached ls .names) (reached ls .model .actions) a ≡ map keyOf (getD xs a noLines .variants)
-
 -- place i of the names is the first that has the bytes n
 pub record PlaceOf (n : List ℕ) (names : List (List ℕ)) (i : ℕ) : Type 0 where
   pub place : i < length names
   pub name : getD names i [] ≡ n
   pub first : (j : ℕ) → j < i → getD names j [] ≡ n → ⊥
-
--- none of the names has the bytes n
-abbrev pub NoPlace : List ℕ → List (List ℕ) → Type 0
-NoPlace n names = (i : ℕ) → i < length names → getD names i [] ≡ n → ⊥
 
 -- the names of the actions, and of the variants of the action a
 abbrev pub actionNames : List ActionLines → List (List ℕ)

@@ -30,7 +30,8 @@ use Rattle.session_laws.specs.TextRuns.{isRefused}
 use Rattle.session_laws.specs.TextLaws.{text-sound}
 use Rattle.text_moves.specs.NameLaws.{action-key, action-count}
 use Rattle.text_replays.specs.Claims.{reached, ActionLines, noLines, AcceptedAs, Declarations, none, action, variant, other}
-use Rattle.text_replays.specs.Claims.{DeclarationsOf, DeclaredBy}
+use Rattle.text_replays.specs.Inner.{DeclaredBy}
+use Rattle.text_replays.specs.Claims.{DeclarationsOf}
 use Rattle.text_replays.specs.DeclaringLaws.{countsOf, lensOf, allOf, addLast, add-none, add-more, add-new, declaring, Same, NamesEffect, an-action, a-variant, leaves, effect}
 
 -- the name of a (variant n WEIGHT) line

@@ -4,12 +4,12 @@ use mathlib.Core.Bool.{Bool, true, false}
 use mathlib.Core.List.{List, [], _∷_, map}
 use mathlib.Core.Option.{Option, some, none}
 use Prim.Native.Nat.{ℕ}
-use lib.ListN.{length, getD}
+use lib.ListN.{getD}
 use lib.Dec.{eqb}
 use Rattle.refusal.specs.Outcome.{ok}
 use Rattle.diagram.specs.Diagram.{Diagram, leaf}
 use Rattle.regression.specs.Regression.{Truths}
-use Rattle.mdp.specs.Model.{Variant, Action, Every}
+use Rattle.mdp.specs.Model.{Variant, Action}
 use Rattle.replay.specs.Replay.{variantOf}
 use Rattle.words.specs.Keys.{keyOf}
 use Rattle.text.specs.declared.Kind.the-variants as K
@@ -21,7 +21,7 @@ use Rattle.session.specs.ModelLines.{weightRead, truthsNow, truthRead}
 use Rattle.session.specs.Replies.{Reply}
 use Rattle.session_laws.specs.TextReplies.{replies}
 use Rattle.session_laws.specs.TextRuns.{isRefused}
-use Rattle.text_replays.specs.Claims.{AcceptedAs, reached, didIn, ActionLines, DeclarationsOf, NamesDid}
+use Rattle.text_replays.specs.Claims.{AcceptedAs, reached, didIn, ActionLines, NamesDid}
 
 -- an accepted (variant n WEIGHT) line: its name, the diagram of WEIGHT, and those of the accepted (becomes (p ?a ..) DIAGRAM) lines behind it, before the next accepted
 -- (variant ..) or (action ..) line, each with the number of p
@@ -84,24 +84,8 @@ abbrev pub drawnFor : List (ℕ × Diagram) → Truths
 drawnFor [] q = none
 drawnFor (t ∷ ts) q = orElse (drawnFor ts q) (ifSo (eqb q (t .0)) (t .1))
 
--- no two are drawn for one predicate
-abbrev pub OneEach : List (ℕ × Diagram) → Type 0
-OneEach [] = Unit {0}
-OneEach (t ∷ ts) = (drawnFor ts (t .0) ≡ none) × OneEach ts
-
-abbrev pub DrawnOnce : List ActionDrawn → Type 0
-DrawnOnce xs = Every (λ x. Every (λ v. OneEach (v .truths)) (x .variants)) xs
-
 abbrev pub variantFrom : VariantDrawn → Variant
 variantFrom v = record { weight = v .weight; truths = drawnFor (v .truths) }
-
-abbrev pub actionFrom : ActionDrawn → Action
-actionFrom x = record { count = length (x .action .1); variants = map variantFrom (x .variants) }
-
--- the session behind the lines has these: action a and its variant v are the lines at these places, with the diagrams that they drew, under the names that they declare
-pub record DrawnBy (ls : List (List ℕ)) (xs : List ActionDrawn) : Type 0 where
-  pub names : DeclarationsOf ls (map linesOf xs)
-  pub actions : reached ls .model .actions ≡ map actionFrom xs
 
 -- what the lines draw for variant v of action a
 abbrev pub noDrawing : ActionDrawn

@@ -32,7 +32,8 @@ use Rattle.text_moves.specs.NameLaws.{action-count}
 use Rattle.text_replays.specs.Claims.{reached, AcceptedAs, didIn, NamesPass, ActionLines, Declarations}
 use Rattle.text_replays.specs.Claims as C
 use Rattle.text_replays.specs.Drawings.{VariantDrawn, ActionDrawn, DrawsWeight, DrawsTruth, Drawings, ends, action, variant, becomes, other, DrawingsOf, linesOf}
-use Rattle.text_replays.specs.Drawings.{orElse, ifSo, drawnFor, variantFrom, actionFrom, DrawnBy, noDrawing, noneDrawn, drawnAt, DidDrawn}
+use Rattle.text_replays.specs.Inner.{actionFrom, DrawnBy}
+use Rattle.text_replays.specs.Drawings.{orElse, ifSo, drawnFor, variantFrom, noDrawing, noneDrawn, drawnAt, DidDrawn}
 use Rattle.text_replays.specs.DrawingLaws.{drawing, actionsOf, Same, readWeight, readTruth, ActionsEffect, an-action, a-variant, a-truth, leaves, effect}
 use Rattle.text_replays.specs.DeclaredLaws.{map-at, none-before}
 use Rattle.text_replays.specs.NameLaws.{text-did-names}

@@ -23,7 +23,8 @@ use Rattle.session.specs.Replies.{Reply, reply}
 use Rattle.session.specs.Texts.{hasBytes, Progress, replied, afterLine, afterLines}
 use Rattle.session.specs.Good.{GoodSession}
 use Rattle.session_laws.specs.TextReplies.{replies}
-use Rattle.session_laws.specs.TextRuns.{isRefused, movesState}
+use Rattle.session_laws.specs.Inner.{movesState}
+use Rattle.session_laws.specs.TextRuns.{isRefused}
 use Rattle.session_laws.specs.PlaceLaws.{placed-objects}
 use Rattle.session_laws.specs.KeepLaws.{line-keeps}
 use Rattle.text_replays.specs.Claims.{didBytes, AcceptedAs, didIn, Undisturbed, Logs, none, did, other}

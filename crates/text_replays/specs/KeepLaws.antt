@@ -31,7 +31,8 @@ use Rattle.session.specs.ModelLines.{withReward, rewardRead, rewardLine, withVa
 use Rattle.session.specs.Running.{startLine}
 use Rattle.session.specs.Replaying.{replayed, didLine}
 use Rattle.session.specs.Replies.{Reply, hasObjects, isPlaced, allowed, wordsOf, reply}
-use Rattle.session_laws.specs.TextRuns.{isRefused, movesState}
+use Rattle.session_laws.specs.Inner.{movesState}
+use Rattle.session_laws.specs.TextRuns.{isRefused}
 use Rattle.session_laws.specs.PlaceLaws.{in-run, did-placed}
 use Rattle.session_laws.specs.RunLaws.{made-by}
 use Rattle.session_laws.specs.ReplayLaws.{did-read}

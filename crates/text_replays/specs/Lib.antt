@@ -62,6 +62,7 @@
 -- definitions
 pub mod Claims
 pub mod Drawings
+pub mod Inner
 -- laws
 pub mod ObjectLaws
 pub mod LineLaws

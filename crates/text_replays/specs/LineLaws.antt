@@ -23,7 +23,7 @@ use Rattle.session.specs.declared.Part.the-variants.{Model as ModelPart, Run}
 use Rattle.session.specs.Place.{ruleOf}
 use Rattle.session.specs.Session.{Live, Session, refuseIf}
 use Rattle.session.specs.Replaying.{didOf, didTo, didLine}
-use Rattle.session.specs.Replies.{isPlaced, unless, allowed, refusal, didSays, done, placed, replyTo, wordsOf, reply}
+use Rattle.session.specs.Replies.{isPlaced, unless, allowed, refusal, didSays, done, atPlace, replyTo, wordsOf, reply}
 use Rattle.text_replays.specs.Claims.{didBytes, Stands, hasAction, actionParameters, hasVariant}
 use Rattle.text_replays.specs.ObjectLaws.{numbers-held}
 
@@ -44,16 +44,16 @@ readOf σ w = didLine (σ .model) (σ .names) (σ .live) (keyOf (w .0)) (keyOf (
 -- ===== Its place =====
 
 module _ (σ : Session) (number : ℕ) (w : Words K.Did) (good : GoodLine (line K.Did w)) where
-  did-reply : reply σ number (didBytes w) ≡ placed σ number (allowed σ (ruleOf K.Did (σ .part))) (didSays σ number (readOf σ w))
+  did-reply : reply σ number (didBytes w) ≡ atPlace σ number (allowed σ (ruleOf K.Did (σ .part))) (didSays σ number (readOf σ w))
   unfolding reply replyTo done
   did-reply =
       ap (λ (k : Kind). replyTo σ number k (wordsOf k (didBytes w))) (did-kind w good)
       ∙ ap (replyTo σ number K.Did) (line-events K.Did w (good .0))
-      ∙ ap (λ (os : List ℕ). placed σ number (allowed σ (ruleOf K.Did (σ .part))) (didSays σ number (didLine (σ .model) (σ .names) (σ .live) (keyOf (w .0)) (keyOf (w .1)) os)))
+      ∙ ap (λ (os : List ℕ). atPlace σ number (allowed σ (ruleOf K.Did (σ .part))) (didSays σ number (didLine (σ .model) (σ .names) (σ .live) (keyOf (w .0)) (keyOf (w .1)) os)))
       (numbers-held (w .2))
 
-  did-at : (o : Outcome (Unit {0})) → allowed σ (ruleOf K.Did (σ .part)) ≡ o → reply σ number (didBytes w) ≡ placed σ number o (didSays σ number (readOf σ w))
-  did-at o e = did-reply ∙ ap (λ (u : Outcome (Unit {0})). placed σ number u (didSays σ number (readOf σ w))) e
+  did-at : (o : Outcome (Unit {0})) → allowed σ (ruleOf K.Did (σ .part)) ≡ o → reply σ number (didBytes w) ≡ atPlace σ number o (didSays σ number (readOf σ w))
+  did-at o e = did-reply ∙ ap (λ (u : Outcome (Unit {0})). atPlace σ number u (didSays σ number (readOf σ w))) e
 
   pub model-refused : σ .part ≡ ModelPart → reply σ number (didBytes w) ≡ refusal σ number F.Place
   unfolding allowed

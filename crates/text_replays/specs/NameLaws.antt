@@ -21,7 +21,8 @@ use Rattle.text.specs.Line.Line.{line}
 use Rattle.session.specs.Replaying.{didOf}
 use Rattle.session.specs.Replies.{Reply}
 use Rattle.text_replays.specs.Claims.{reached, didIn, hasAction, hasVariant, NamesPass, ActionLines, Declarations, none, action, variant, other}
-use Rattle.text_replays.specs.Claims.{DeclarationsOf, DeclaredBy, PlaceOf, NoPlace, actionNames, variantNamesAt, NamesDid}
+use Rattle.text_replays.specs.Inner.{DeclaredBy, NoPlace}
+use Rattle.text_replays.specs.Claims.{DeclarationsOf, PlaceOf, actionNames, variantNamesAt, NamesDid}
 use Rattle.text_replays.specs.DeclaredLaws.{text-declared}
 
 -- ===== The place of a name =====

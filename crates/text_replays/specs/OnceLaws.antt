@@ -30,7 +30,8 @@ use Rattle.session.specs.ModelLines.{mostModelRows, namesFor, rowsWith, withTru
 use Rattle.session.specs.Texts.{Progress, afterLines, beginning}
 use Rattle.session_laws.specs.TextReplies.{replies}
 use Rattle.session_laws.specs.TextLaws.{Sound, reply-sound, text-sound}
-use Rattle.text_replays.specs.Drawings.{VariantDrawn, ActionDrawn, Drawings, ends, action, variant, becomes, other, DrawingsOf, orElse, ifSo, drawnFor, OneEach, DrawnOnce}
+use Rattle.text_replays.specs.Inner.{OneEach, DrawnOnce}
+use Rattle.text_replays.specs.Drawings.{VariantDrawn, ActionDrawn, Drawings, ends, action, variant, becomes, other, DrawingsOf, orElse, ifSo, drawnFor}
 use Rattle.text_replays.specs.DrawingLaws.{actionsOf}
 use Rattle.text_replays.specs.DrawnLaws.{first-truth, first-other, next}
 

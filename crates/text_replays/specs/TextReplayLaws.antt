@@ -30,12 +30,14 @@ use Rattle.session.specs.Replies.{Reply, isPlaced, reply}
 use Rattle.session.specs.Texts.{afterLines, beginning, replyBytes}
 use Rattle.session.specs.Good.{GoodSession}
 use Rattle.session_laws.specs.TextReplies.{replies}
-use Rattle.session_laws.specs.TextRuns.{isRefused, movesState}
+use Rattle.session_laws.specs.Inner.{movesState}
+use Rattle.session_laws.specs.TextRuns.{isRefused}
 use Rattle.session_laws.specs.FoldLaws.{replies-count}
 use Rattle.session_laws.specs.KeepLaws.{Keeps, line-keeps, Kept, lines-keep}
 use Rattle.session_laws.specs.TextLaws.{text-sound}
 use Rattle.text_moves.specs.Claims.{inHand}
-use Rattle.text_replays.specs.Claims.{didBytes, reached, repliesAfter, AcceptedAs, didIn, Undisturbed, Logs, stateBefore, LogOf, Replays, Begins, didPrints}
+use Rattle.text_replays.specs.Inner.{Begins, didPrints}
+use Rattle.text_replays.specs.Claims.{didBytes, reached, repliesAfter, AcceptedAs, didIn, Undisturbed, Logs, stateBefore, LogOf, Replays}
 use Rattle.text_replays.specs.LineLaws.{did-kind}
 use Rattle.text_replays.specs.RefusalLaws.{may-did, did-may}
 use Rattle.text_replays.specs.KeepLaws.{StateEffect, stays, clears, places, tells, does, effect}

@@ -66,7 +66,8 @@ use Rattle.session_laws.specs.CaseLaws.{Cases, vocabularyOf, done-by, reply-by}
 use Rattle.session_laws.specs.MadeLaws.{constant-by, predicate-by, action-by}
 use Rattle.session_laws.specs.TextLaws.{Sound, reply-sound, text-sound}
 use Rattle.text_moves.specs.Claims.{inHand}
-use Rattle.text_replays.specs.Claims.{reached, didIn, nextOf, NoneUndeclared}
+use Rattle.text_replays.specs.Inner.{NoneUndeclared}
+use Rattle.text_replays.specs.Claims.{reached, didIn, nextOf}
 
 -- the rows of facts are of predicates up to n
 abbrev RowsTo : ℕ → List ℕ → Type 0

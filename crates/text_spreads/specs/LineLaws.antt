@@ -35,7 +35,7 @@ use Rattle.session.specs.declared.Part.the-variants.{Model as ModelPart, Run}
 use Rattle.session.specs.Place.{ruleOf}
 use Rattle.session.specs.Session.{Session, refuseIf}
 use Rattle.session.specs.Running.{stateIn, valueRead, countRead}
-use Rattle.session.specs.Replies.{Reply, eachPlaced, unless, allowed, refusal, valueSays, countSays, done, placed, replyTo, wordsOf, reply}
+use Rattle.session.specs.Replies.{Reply, eachPlaced, unless, allowed, refusal, valueSays, countSays, done, atPlace, replyTo, wordsOf, reply}
 use Rattle.session.specs.Good.{GoodSession}
 use Rattle.session_laws.specs.LineAnswers.{valueLine}
 use Rattle.text_spreads.specs.Claims.{countLine, choiceOf, withChoice, valueAt, AllPlaced, AllBelow, MeetsLarge, PrintsValue}
@@ -43,18 +43,18 @@ use Rattle.text_spreads.specs.Claims.{countLine, choiceOf, withChoice, v
 -- ===== Its place =====
 
 module _ (σ : Session) (number : ℕ) (w : List ℕ) (good : GoodLine (line K.Count w)) where
-  count-reply : reply σ number (countLine w) ≡ placed σ number (allowed σ (ruleOf K.Count (σ .part)))
+  count-reply : reply σ number (countLine w) ≡ atPlace σ number (allowed σ (ruleOf K.Count (σ .part)))
       (countSays σ number (valueOf w) (countRead (σ .model) (σ .names) (σ .live) (σ .held .diagram) (valueOf w)))
   unfolding reply replyTo done
   count-reply =
       ap (λ (k : Kind). replyTo σ number k (wordsOf k (countLine w))) (line-complete (line K.Count w) good)
       ∙ ap (replyTo σ number K.Count) (line-events K.Count w (good .0))
 
-  count-at : (o : Outcome (Unit {0})) → allowed σ (ruleOf K.Count (σ .part)) ≡ o → reply σ number (countLine w) ≡ placed σ number o
+  count-at : (o : Outcome (Unit {0})) → allowed σ (ruleOf K.Count (σ .part)) ≡ o → reply σ number (countLine w) ≡ atPlace σ number o
       (countSays σ number (valueOf w) (countRead (σ .model) (σ .names) (σ .live) (σ .held .diagram) (valueOf w)))
   count-at o e =
       let y = countSays σ number (valueOf w) (countRead (σ .model) (σ .names) (σ .live) (σ .held .diagram) (valueOf w)) in
-      count-reply ∙ ap (λ (u : Outcome (Unit {0})). placed σ number u y) e
+      count-reply ∙ ap (λ (u : Outcome (Unit {0})). atPlace σ number u y) e
 
   pub model-refused : σ .part ≡ ModelPart → reply σ number (countLine w) ≡ refusal σ number F.Place
   unfolding allowed
@@ -171,7 +171,7 @@ module _ (σ : Session) (g : GoodSession σ) (p : σ .part ≡ Run) (marks : eac
   value-in place b e =
       let τ = withChoice σ n c in
       ap (λ (k : Kind). replyTo τ place k (wordsOf k valueLine)) (line-complete (line K.Value tt) (tt, omega arith, omega arith))
-      ∙ ap (λ (o : Outcome (Unit {0})). placed τ place o (done τ place K.Value (wordsOf K.Value valueLine))) allowed-value
+      ∙ ap (λ (o : Outcome (Unit {0})). atPlace τ place o (done τ place K.Value (wordsOf K.Value valueLine))) allowed-value
       ∙ ap (λ (d : Bool). valueSays τ place (refuseIf d F.Valuations (ok (number (choiceOf σ n c) [] (meaning (σ .model .arities) (σ .held .diagram)))))) e
 
   pub prints-value : isTooLarge (σ .model .arities) (choiceOf σ n c) [] (listing (σ .held .diagram)) ≡ false → PrintsValue σ n c (valueAt σ n c)

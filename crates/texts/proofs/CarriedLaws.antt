@@ -13,15 +13,16 @@ use Rattle.session.specs.Session.{Session}
 use Rattle.session.specs.Texts.{Lines, linesOf, Progress, afterLine}
 use Rattle.model_entry.specs.Starts.{Slot, SlotStarts, hasStart, startsBehind}
 use Rattle.memory.specs.declared.Numbers.{Numbers}
-use Rattle.memory.specs.Memory.{Memory, sessionOf, startsOf, Carried}
+use Rattle.memory.specs.Inner.{Carried}
+use Rattle.memory.specs.Memory.{Memory, sessionOf, startsOf}
 use Rattle.memory.specs.SlotLaws.{carried-starts}
 use Rattle.texts.specs.declared.Position.{Position}
 use Rattle.texts.specs.declared.Answered.{Answered}
 use Rattle.texts.specs.Ends.{lineLength}
 use Rattle.texts.specs.LineLaws.{line-within, lines-none}
 use Rattle.texts.specs.Running.{fits}
-use Rattle.texts.specs.Sending.{progressOf}
-use Rattle.texts.specs.Whole.{unwritten, Whole, wholeOf, startsFrom, nextEnd, behindReply, Steps, CarriedOver}
+use Rattle.texts.specs.Inner.{progressOf, wholeOf, nextEnd, behindReply, Steps, CarriedOver}
+use Rattle.texts.specs.Whole.{unwritten, Whole, startsFrom}
 use Rattle.texts.specs.StartLaws.{starts-none, starts-next, starts-alike}
 use Rattle.texts.proofs.RunLaws.{leftOver, Answering, here-long, there, split, answering-next, answering-done}
 

@@ -11,7 +11,8 @@ use lib.ListN.{length, getD, set, take, drop, length-drop, length-set}
 use lib.Seq.{take-all, take-suc, take-suc-set, length-take-le, drop-set-lt, drop-drop, drop-cons, drop-at, take-take, take-add}
 use Rattle.texts.specs.declared.Rest.{Rest}
 use Rattle.texts.specs.Ends.{lineLength}
-use Rattle.texts.specs.Streaming.{lineRoom, restOf, restBy, Keeps}
+use Rattle.texts.specs.Inner.{restOf, restBy, Keeps}
+use Rattle.texts.specs.Streaming.{lineRoom}
 
 -- ===== Moved to the front =====
 

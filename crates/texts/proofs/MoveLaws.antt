@@ -14,7 +14,8 @@ use Rattle.answers.specs.declared.Answer.the-variants.{Refused}
 use Rattle.answers.specs.declared.Put.{Put}
 use Rattle.answers.specs.declared.Put.the-variants as P
 use Rattle.answers.specs.Answers.{answerLine, answerBytes}
-use Rattle.answers.specs.Writing.{mostBytes, Placed, putAnswer, putResult}
+use Rattle.answers.specs.Inner.{Placed, putAnswer, putResult}
+use Rattle.answers.specs.Writing.{mostBytes}
 use Rattle.session.specs.Replies.{reply}
 use Rattle.session.specs.Texts.{hasBytes, Progress, replyBytes, afterLine, afterRest, unfinished, closing}
 use Rattle.memory.specs.declared.Numbers.{Numbers}
@@ -24,10 +25,10 @@ use Rattle.texts.specs.declared.Ran.the-variants.{Done, Full}
 use Rattle.texts.specs.declared.Sent.{Sent}
 use Rattle.texts.specs.declared.Position.{Position}
 use Rattle.texts.specs.declared.Answered.{Answered}
-use Rattle.texts.specs.Running.{Filled, fits, stopped, fillClosing, fillRest, filledBehind, inFront, Fills}
+use Rattle.texts.specs.Inner.{filledBehind, Sends, progressOf, Going, behindReply, Steps}
+use Rattle.texts.specs.Running.{Filled, fits, stopped, fillClosing, fillRest, inFront, Fills}
 use Rattle.texts.specs.RunningLaws.{rest-none, closing-grows}
-use Rattle.texts.specs.Sending.{Sends, progressOf, Going}
-use Rattle.texts.specs.Whole.{unwritten, behindReply, Steps}
+use Rattle.texts.specs.Whole.{unwritten}
 
 -- ===== An answer that has room, or none =====
 

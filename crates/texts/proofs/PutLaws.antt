@@ -12,7 +12,8 @@ use Rattle.answers.specs.declared.Put.{Put}
 use Rattle.answers.specs.declared.Answer.{Answer}
 use Rattle.answers.specs.declared.Answer.the-variants as A
 use Rattle.answers.specs.Answers.{answerLine, rowLines, countLines, answerBytes}
-use Rattle.answers.specs.Writing.{lineBytes, mostBytes, Placed}
+use Rattle.answers.specs.Inner.{lineBytes, Placed}
+use Rattle.answers.specs.Writing.{mostBytes}
 use Rattle.answering.specs.declared.Printed.{Printed}
 use Rattle.answering.specs.declared.Printed.the-variants as P
 use Rattle.answering.specs.Printing.{printedBy}

@@ -19,12 +19,13 @@ use Rattle.texts.specs.declared.Position.{Position}
 use Rattle.texts.specs.declared.Answered.{Answered}
 use Rattle.texts.specs.Ends.{lineLength}
 use Rattle.texts.specs.LineLaws.{behindLine, line-within, lines-first, lines-none, rest-all}
-use Rattle.texts.specs.Running.{Filled, fits, fillRest, fillFrom, filledBehind, filled, Fills}
+use Rattle.texts.specs.Inner.{filledBehind, progressOf, Going, Started, Starts, wholeOf, Answerable, Reaches, nextEnd, Steps, Ending}
+use Rattle.texts.specs.Running.{Filled, fits, fillRest, fillFrom, filled, Fills}
 use Rattle.texts.specs.RunningLaws.{rest-grows, line-begins}
-use Rattle.texts.specs.Sending.{mostLines, progressOf, Going, Started, Starts}
+use Rattle.texts.specs.Sending.{mostLines}
 use Rattle.texts.specs.Streaming.{Stream, fresh, onBytes}
 use Rattle.texts.specs.StreamLaws.{bytes-append, whole-line}
-use Rattle.texts.specs.Whole.{unwritten, Whole, wholeFrom, wholeOf, Answerable, Reaches, nextEnd, Steps, Ending}
+use Rattle.texts.specs.Whole.{unwritten, Whole, wholeFrom}
 use Rattle.texts.specs.WholeLaws.{whole-none, whole-next, fill-whole, whole-all}
 use Rattle.texts.proofs.MoveLaws.{drop-later, fills-over}
 

@@ -16,7 +16,8 @@ use Rattle.answers.specs.declared.Put.{Put}
 use Rattle.answers.specs.declared.Answer.{Answer}
 use Rattle.answers.specs.declared.Answer.the-variants.{Show, Text, Count}
 use Rattle.answers.specs.Answers.{rowLines, countLines, answerBytes}
-use Rattle.answers.specs.Writing.{mostBytes, Placed}
+use Rattle.answers.specs.Inner.{Placed}
+use Rattle.answers.specs.Writing.{mostBytes}
 use Rattle.session.specs.declared.Part.the-variants.{Run}
 use Rattle.session.specs.Session.{Session}
 use Rattle.session.specs.Running as running
@@ -25,11 +26,12 @@ use Rattle.session.specs.Texts.{valueForm, tableOf, replyBytes}
 use Rattle.session_laws.specs.PrintLaws.{reply-shows, reply-prints, reply-counts}
 use Rattle.memory.specs.declared.Numbers.{Numbers}
 use Rattle.memory.specs.declared.Said.{Said}
-use Rattle.memory.specs.Memory.{Memory, sessionOf, Kept, Replied}
+use Rattle.memory.specs.Inner.{Kept, Replied}
+use Rattle.memory.specs.Memory.{Memory, sessionOf}
 use Rattle.run_lines.specs.ReadyLaws.{stored-text}
 use Rattle.texts.specs.Putting.{tablesIn, valueIn, answerIn, Form, Puttable}
 use Rattle.texts.specs.ShowLaws.{rows-begin, counts-begin, begins, answers-same, held-count}
-use Rattle.texts.specs.Sending.{Sends}
+use Rattle.texts.specs.Inner.{Sends}
 
 -- the rows to be shown are the listing that the words hold
 record Held (r : Said) (w : Memory) (m : ℕ) : Type 0 where

@@ -5,6 +5,7 @@ pub mod Putting
 pub mod Sending
 pub mod Streaming
 pub mod Whole
+pub mod Inner
 -- laws
 pub mod LineLaws
 pub mod RunningLaws

@@ -35,10 +35,6 @@ unfoldable pub fillRest : ℕ → Progress → List ℕ → Filled
 unfolding fillClosing afterRest
 fillRest room p s = cond (fits room (afterRest p s .bytes)) (fillClosing room (afterRest p s)) (stopped p)
 
--- behind the last whole line, or where an answer has no room
-abbrev pub filledBehind : ℕ → Bool → Progress → List ℕ → Filled
-filledBehind room full p s = cond full (stopped p) (fillRest room p s)
-
 -- line by line
 unfoldable pub fillLines : ℕ → Progress → List (List ℕ) → List ℕ → Filled
 unfolding fillRest afterLine

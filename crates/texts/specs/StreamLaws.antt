@@ -18,12 +18,13 @@ use Rattle.session.specs.declared.Part.{Part}
 use Rattle.session.specs.declared.Part.the-variants.{Model, Run}
 use Rattle.session.specs.Session.{Session}
 use Rattle.session.specs.Place.{ruleOf}
-use Rattle.session.specs.Replies.{allowed, placed, done, replyTo, reply, refusal, wordsOf}
+use Rattle.session.specs.Replies.{allowed, atPlace, done, replyTo, reply, refusal, wordsOf}
 use Rattle.session.specs.Texts.{lineFeed, Lines, behindByte, linesOf, hasBytes, Progress, replyBytes, closing, replied, afterLine, afterLines, afterRest, beginning, textAnswers}
 use Rattle.texts.specs.Ends.{lineLength}
 use Rattle.texts.specs.LineLaws.{line-within, line-whole, line-ends, line-front}
 use Rattle.texts.specs.Running.{allBytes}
-use Rattle.texts.specs.Streaming.{lineRoom, Stream, fresh, onByte, onBytes, onBlocks, joined, streamStart, onEnd, behindWritten, restOf}
+use Rattle.texts.specs.Inner.{behindWritten, restOf}
+use Rattle.texts.specs.Streaming.{lineRoom, Stream, fresh, onByte, onBytes, onBlocks, joined, streamStart, onEnd}
 
 -- ===== A line that is too long =====
 
@@ -35,7 +36,7 @@ bad-refused : (σ : Session) (number : ℕ) (es : List Event) → replyTo σ num
 unfolding replyTo allowed
 bad-refused σ number es = go (σ .part)
   where
-    go : (p : Part) → placed σ number (allowed σ (ruleOf K.Bad p)) (done σ number K.Bad es) ≡ refusal σ number Form
+    go : (p : Part) → atPlace σ number (allowed σ (ruleOf K.Bad p)) (done σ number K.Bad es) ≡ refusal σ number Form
     go Model = refl
     go Run = refl
 

@@ -8,7 +8,8 @@ use borrow.Author.Tests.{le-leb, leb-true}
 use lib.ListN.{length}
 use lib.Dec.{leb}
 use Rattle.session.specs.Texts.{Progress, afterLine}
-use Rattle.texts.specs.Running.{fits, stopped, fillLines, filledBehind}
+use Rattle.texts.specs.Inner.{filledBehind}
+use Rattle.texts.specs.Running.{fits, stopped, fillLines}
 use Rattle.texts.specs.Whole.{unwritten, Whole, wholeFrom}
 
 -- too few bytes are free

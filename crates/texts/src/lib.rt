@@ -13,18 +13,19 @@ ghost use Prim.Native.Nat.{ℕ, _+_, _-_, _<_, _≤_};
 ghost use lib.ListN.{length, take, drop};
 ghost use Rattle.answers.specs.declared.Answer.the-variants.{Refused};
 ghost use Rattle.answers.specs.Answers.{answerLine};
-ghost use Rattle.answers.specs.Writing.{mostBytes, Placed};
+ghost use Rattle.answers.specs.Inner.{Placed};
+ghost use Rattle.answers.specs.Writing.{mostBytes};
 ghost use Rattle.session.specs.Texts.{hasBytes, unfinished};
-ghost use Rattle.memory.specs.Memory.{Memory, memoryOf, Carried, Kept, Rooms, workWords};
+ghost use Rattle.memory.specs.Inner.{Carried, Kept};
+ghost use Rattle.memory.specs.Memory.{Memory, memoryOf, Rooms, workWords};
 ghost use Rattle.label.specs.Limits.{predicateCount};
 ghost use Rattle.facts.specs.Words.{stateWords};
 ghost use Rattle.texts.specs.Ends.{lineLength};
-ghost use Rattle.texts.specs.Running.{fillClosing, fillRest, filledBehind, filled, Fills};
-ghost use Rattle.texts.specs.Streaming.{restBy, Keeps};
+ghost use Rattle.texts.specs.Inner.{filledBehind, Sends, progressOf, Going, Starts, restBy, Keeps, Answerable, Reaches, CarriedOver, wholeOf, nextEnd, behindReply, Steps, Ending};
+ghost use Rattle.texts.specs.Running.{fillClosing, fillRest, filled, Fills};
 ghost use Rattle.spelling.specs.Spelling.{formLine};
 ghost use Rattle.texts.specs.Putting.{tablesIn, valueIn, answerIn, Form, Puttable};
-ghost use Rattle.texts.specs.Sending.{Sends, mostLines, progressOf, Going, Starts};
-ghost use Rattle.texts.specs.Whole.{Answerable, Reaches, CarriedOver, wholeOf, nextEnd, behindReply, Steps, Ending};
+ghost use Rattle.texts.specs.Sending.{mostLines};
 
 // Words of working space for a session.
 pub const WORK_WORDS: usize = diagram::SPACE_WORDS;

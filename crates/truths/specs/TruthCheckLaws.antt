@@ -25,7 +25,8 @@ use Rattle.diagram.specs.ListingLaws.{index-less, getD-index}
 use Rattle.diagram.specs.Validity.{Valid, tree}
 use Rattle.diagram.specs.ListingValid.{listing-is-valid}
 use Rattle.diagram.specs.DiagramOfListing.{shown-rows, rows-are}
-use Rattle.diagram.specs.RowLists.{rowTree, isPart}
+use Rattle.diagram.specs.Inner.{isPart}
+use Rattle.diagram.specs.RowLists.{rowTree}
 use Rattle.diagram.specs.RowLaws.{row-mem, mem-rows, part-self, part-high, part-low, part-leaf, part-branch, PartOf, it-is, of-high, of-low}
 use Rattle.listing.specs.Used.{Used}
 use Rattle.regression.specs.RegressCall.{truthCount, truthWords, truthsOf, areListings, leafAbove, unboundVariable, checkTruth, checkTruths}

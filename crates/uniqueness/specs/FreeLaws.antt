@@ -20,7 +20,8 @@ use Rattle.diagram.specs.Words.{isListing}
 use Rattle.diagram.specs.Listing.{diagramOf, Good}
 use Rattle.diagram.specs.Listings.{is-listing-good}
 use Rattle.diagram.specs.Variables.{occurs}
-use Rattle.rename.specs.Freeing.{freed, Freeable}
+use Rattle.rename.specs.Inner.{Freeable}
+use Rattle.rename.specs.Freeing.{freed}
 use Rattle.rename.specs.FreeingLaws.{terms-freed, freed-good}
 use Rattle.rename.specs.VariableLaws.{occurs-term}
 use Rattle.regression.specs.declared.Freed.the-variants.{Done}

@@ -15,7 +15,7 @@ use Rattle.names.specs.Keys.{placeOf, isAmong}
 use Rattle.diagram.specs.Diagram.{Diagram}
 use Rattle.events.specs.Events.{diagramEvents}
 use Rattle.reading.specs.declared.Binding.the-variants.{Any, None, Only}
-use Rattle.reading.specs.Reading.{Names, Met, arguments as argumentsMet}
+use Rattle.reading.specs.Reading.{Environment, Met, arguments as argumentsMet}
 use Rattle.reading.specs.Numbering.{metFirst}
 use Rattle.reading.specs.Head.{headKeys}
 use Rattle.reading.specs.Tree.{Reading, resolveDiagram}
@@ -29,19 +29,19 @@ use Rattle.uniqueness.specs.Meaning.{TheOnly, TheOnlyClosed}
 -- ===== What is written =====
 
 -- the tree t of a diagram, each name resolved in the order of the words, is r; the variables vs of each kind stand before it
-pub record StandsFor (names : Names) (vs : Met) (t : T.Diagram) (r : Reading) : Type 0 where
+pub record StandsFor (names : Environment) (vs : Met) (t : T.Diagram) (r : Reading) : Type 0 where
   pub met : Met
   pub resolved : resolveDiagram names vs t ≡ ok (record { value = r; met = met })
 
 -- d is the only diagram that means what t writes. 'A diagram is a number, or (if ATOM DIAGRAM DIAGRAM)': the leaf that the choice c leads to, by the truth of
 -- each ATOM, is build's `meaning` c.
-pub record Writes (names : Names) (vs : Met) (t : T.Diagram) (d : Diagram) : Type 0 where
+pub record Writes (names : Environment) (vs : Met) (t : T.Diagram) (d : Diagram) : Type 0 where
   pub tree : Reading
   pub stands : StandsFor names vs t tree
   pub one : TheOnly (names .arities) (λ c. meaning c tree) d
 
 -- 'a reward is closed up when read'
-pub record WritesClosed (names : Names) (vs : Met) (t : T.Diagram) (d : Diagram) : Type 0 where
+pub record WritesClosed (names : Environment) (vs : Met) (t : T.Diagram) (d : Diagram) : Type 0 where
   pub tree : Reading
   pub stands : StandsFor names vs t tree
   pub one : TheOnlyClosed (names .arities) (λ c. meaning c tree) d

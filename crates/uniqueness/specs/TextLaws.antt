@@ -31,14 +31,14 @@ use Rattle.reading.specs.Numbering.{metFirst, rewardReading}
 use Rattle.reading.specs.Head.{Head, openedNumber, headNumber, headArguments, headKeys}
 use Rattle.reading.specs.OutcomeLaws.{ok-one, passed, chained}
 use Rattle.reading.specs.LineLaws.{becomes-arguments}
-use Rattle.reading.specs.Tree.{NamesFit}
+use Rattle.reading.specs.Inner.{NamesFit}
 use Rattle.build.specs.Machine.{mostTests, built, builtClosed}
 use Rattle.answers.specs.declared.Answer.the-variants as A
 use Rattle.session.specs.Place.{ruleOf}
 use Rattle.session.specs.Session.{Names, Session}
 use Rattle.session.specs.ModelLines.{mostModelRows, namesFor, rowsWith, rewardRead, rewardLine, weightRead, variantLine}
 use Rattle.session.specs.ModelLines.{isSome, truthsNow, withTruth, truthRead, becomesLine}
-use Rattle.session.specs.Replies.{Reply, quietly, placed, allowed, done, replyTo, wordsOf, reply}
+use Rattle.session.specs.Replies.{Reply, quietly, atPlace, allowed, done, replyTo, wordsOf, reply}
 use Rattle.session.specs.Good.{GoodTables, GoodSession}
 use Rattle.session.specs.Texts.{beginning, afterLines}
 use Rattle.mdp.specs.Model.{mostVariants}
@@ -151,8 +151,8 @@ module _ (σ : Session) (number : ℕ) where
   reply-words k w g =
       ap (λ (j : Kind). replyTo σ number j (wordsOf j (lineBytes (line k w)))) (line-complete (line k w) g) ∙ ap (replyTo σ number k) (line-events k w (g .0))
 
-  placed-quiet : (p : Outcome (Unit {0})) (o : Outcome Session) → placed σ number p (quietly σ number (λ τ. τ) o) .answer ≡ A.Nothing
-      → o ≡ ok (placed σ number p (quietly σ number (λ τ. τ) o) .session)
+  placed-quiet : (p : Outcome (Unit {0})) (o : Outcome Session) → atPlace σ number p (quietly σ number (λ τ. τ) o) .answer ≡ A.Nothing
+      → o ≡ ok (atPlace σ number p (quietly σ number (λ τ. τ) o) .session)
   placed-quiet (ok u) (ok τ) e = refl
   placed-quiet (ok u) (refused r) e = let z : _≡_ {A = ℕ} 0 1 = cc in absurd (omega arith)
   placed-quiet (refused r) o e = let z : _≡_ {A = ℕ} 0 1 = cc in absurd (omega arith)
@@ -162,8 +162,8 @@ module _ (σ : Session) (number : ℕ) where
       → (P : Session → Type 0) → Accepted P o → Accepts σ number (line k w) → P (behindLine σ number (line k w))
   unfolding replyTo
   accepted-line k w g o d P a e =
-      let r : reply σ number (lineBytes (line k w)) ≡ placed σ number (allowed σ (ruleOf k (σ .part))) (quietly σ number (λ τ. τ) o) =
-      reply-words k w g ∙ ap (placed σ number (allowed σ (ruleOf k (σ .part)))) d in
+      let r : reply σ number (lineBytes (line k w)) ≡ atPlace σ number (allowed σ (ruleOf k (σ .part))) (quietly σ number (λ τ. τ) o) =
+      reply-words k w g ∙ ap (atPlace σ number (allowed σ (ruleOf k (σ .part)))) d in
       let q = placed-quiet (allowed σ (ruleOf k (σ .part))) o (ap (λ (y : Reply). y .answer) (sym r) ∙ e) in
       subst P (ap (λ (y : Reply). y .session) (sym r)) (a .given _ q)
 

@@ -3,12 +3,14 @@ use mathlib.Core.Path.{_≡_, ap, sym, _∙_}
 use mathlib.Core.List.{List}
 use Prim.Native.Nat.{ℕ}
 use Rattle.label.specs.Limits.{firstVariable, firstMinimum}
-use Rattle.label.specs.Renamings.{renamed, numbering, Increasing}
+use Rattle.label.specs.Inner.{Increasing}
+use Rattle.label.specs.Renamings.{renamed, numbering}
 use Rattle.label.specs.RenamingLaws.{Numbered, moved-renamed}
 use Rattle.diagram.specs.Diagram.{Diagram, eval, relabel}
 use Rattle.diagram.specs.Listing.{Good}
 use Rattle.diagram.specs.Variables.{variables, minimums, closedFrom, closed}
-use Rattle.rename.specs.Relabelling.{Named, Terms, KindsFit}
+use Rattle.rename.specs.Inner.{Named, KindsFit}
+use Rattle.rename.specs.Relabelling.{Terms}
 use Rattle.rename.specs.RelabelLaws.{eval-relabel, eval-agree, labels-weaken}
 use Rattle.rename.specs.ClosingLaws.{closing-increasing, closed-fit, closed-good}
 use Rattle.rename.specs.VariableLaws.{named-labels, terms-numbered}

@@ -18,8 +18,9 @@ use Rattle.rename.specs.ClosingLaws.{closed-count}
 use Rattle.events.specs.Events.{diagramEvents}
 use Rattle.reading.specs.Operations.{Op}
 use Rattle.reading.specs.Operations.Op.{step}
-use Rattle.reading.specs.Reading.{Names, Met, Written, isWithin, reading}
-use Rattle.reading.specs.Tree.{Reading, resolveDiagram, opsOf, writing, diagramReading, depth, Named, reach, GoodReading, NamesFit}
+use Rattle.reading.specs.Reading.{Environment, Met, Written, isWithin, reading}
+use Rattle.reading.specs.Inner.{writing, diagramReading, depth, Named, reach, GoodReading, NamesFit}
+use Rattle.reading.specs.Tree.{Reading, resolveDiagram, opsOf}
 use Rattle.reading.specs.Tree.Reading.{number, branch as conditional}
 use Rattle.reading.specs.OutcomeLaws.{passed, chained}
 use Rattle.reading.specs.TreeLaws.{reading-diagram}
@@ -61,14 +62,14 @@ ops-one a b e = ops-front a b [] [] (ap (_++ []) e) .0
 -- ===== The tree of a line =====
 
 -- what the words w of a line come to: the operations of what its tree stands for
-pub record Resolved (names : Names) (vs : Met) (t : T.Diagram) (w : Written) : Type 0 where
+pub record Resolved (names : Environment) (vs : Met) (t : T.Diagram) (w : Written) : Type 0 where
   pub tree : Reading
   pub stands : StandsFor names vs t tree
   pub operations : w .operations ≡ opsOf tree
   pub good : GoodReading (names .arities) (Named (length (names .parameters)) (reach (names .binding) vs)) tree
   pub shallow : depth tree ≤ T.brackets t
 
-pub resolved : (names : Names) → NamesFit names → (t : T.Diagram) (vs : Met) (w : Written) → reading names (diagramEvents t) vs ≡ ok w → Resolved names vs t w
+pub resolved : (names : Environment) → NamesFit names → (t : T.Diagram) (vs : Met) (w : Written) → reading names (diagramEvents t) vs ≡ ok w → Resolved names vs t w
 unfolding diagramReading
 resolved names fit t vs w e =
     let c = chained (resolveDiagram names vs t) writing w (sym (reading-diagram names t vs) ∙ e) in
@@ -108,7 +109,7 @@ fine-open ar d w h = fine-before ar _ d w h
 
 -- ===== What is built =====
 
-module _ (names : Names) (fit : NamesFit names) (t : T.Diagram) (shallow : T.brackets t ≤ mostTests) (vs : Met) (w : Written) (x : Resolved names vs t w) (d : Diagram) where
+module _ (names : Environment) (fit : NamesFit names) (t : T.Diagram) (shallow : T.brackets t ≤ mostTests) (vs : Met) (w : Written) (x : Resolved names vs t w) (d : Diagram) where
   labels-asked : EachAsked (λ l. isLabel (names .arities) l ≡ true) (x .tree)
   labels-asked = good-asked (names .arities) _ (x .tree) (x .good)
 

@@ -30,7 +30,7 @@ use Rattle.elimination.specs.Answer.{answerBy, isTooLarge, valueAnswer}
 use Rattle.valuing.specs.Walks.{boundNumber, boundAnswer, isFew, InState}
 use Rattle.valuing.specs.Tables.{tablesAnswer}
 use Rattle.state.specs.LentLaws.{objects-length, object-at, all-made, all-at}
-use Rattle.fact_index.specs.Index.{placeCount, objectAt}
+use Rattle.fact_index.specs.Inner.{placeCount, objectAt}
 use Rattle.valuing.proofs.PassedLaws.{Passed, passed-start, passed-on, passed-no, passed-all}
 
 -- the objects of a row one by one

@@ -14,7 +14,8 @@ use Rattle.label.specs.Labels.{predicateOf, placeAt}
 use Rattle.diagram.specs.WordLaws.{below-every}
 use Rattle.state.specs.Lent.{factCount, factWords, predicateAt, someBelow}
 use Rattle.state.specs.LentLaws.{some-made, some-none}
-use Rattle.fact_index.specs.Index.{buckets, placeCount, objectAt, hashOf, bucketFor, bucketAt, indexedCount, Asks, Sought}
+use Rattle.fact_index.specs.Inner.{placeCount, objectAt, hashOf, bucketFor, bucketAt, indexedCount, Asks, Sought}
+use Rattle.fact_index.specs.Index.{buckets}
 use Rattle.fact_index.specs.IndexLaws.{hash-same}
 use Rattle.valuing.specs.Asking.{givenAt, bucketOf, says, Placed, Asked}
 use Rattle.valuing.proofs.PassedLaws.{Passed, passed-start, passed-on, passed-no, passed-all}

@@ -26,7 +26,8 @@ use Rattle.valuing.specs.declared.Lookup.the-variants.{Free, Bucket}
 use Rattle.state.specs.State.{equated}
 use Rattle.state.specs.Lent.{factCount, predicateAt, objectsAt, someBelow, saidBy, saysFact}
 use Rattle.state.specs.LentLaws.{objects-length, object-at, some-same}
-use Rattle.fact_index.specs.Index.{buckets, placeCount, objectAt, hashEnd, hashGap, hashStart, hashStep, hashOf, bucketFor}
+use Rattle.fact_index.specs.Inner.{placeCount, objectAt, hashEnd, hashGap, hashStart, hashStep, hashOf, bucketFor}
+use Rattle.fact_index.specs.Index.{buckets}
 use Rattle.fact_index.specs.IndexLaws.{Hashing, hashing-start, hashing-on}
 use Rattle.valuing.specs.Asking.{givenAt, bucketOf, says, Placed, Asked}
 use Rattle.valuing.specs.Search.{free, TopsBy, Numbered, lentTruth, lentHolds, endRow, leafFrom, Extends, given, Env, freeCount, Labelled, LooksUp, Telling, Hit, old, new, Best, Ready}

@@ -23,7 +23,8 @@ use Rattle.diagram.specs.ListingValid.{listing-is-valid}
 use Rattle.diagram.specs.Listings.{is-listing-good}
 use Rattle.state.specs.State.{atomOf, meaning, State, truth, holds, value, low, fixed, Fits}
 use Rattle.state.specs.ValueLaws.{low-lt, low-ge, by-low}
-use Rattle.state.specs.Highest.{Highest, Bound}
+use Rattle.state.specs.Inner.{Highest}
+use Rattle.state.specs.Highest.{Bound}
 use Rattle.state.specs.Lent.{allBelow, constantsBelow, stateOf, isState}
 use Rattle.minimum.specs.Number.{Under, Number}
 use Rattle.minimum.specs.NumberLaws.{number-is, number-attained}

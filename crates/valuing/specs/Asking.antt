@@ -9,7 +9,7 @@ use Rattle.label.specs.Limits.{mostPlaces, termEnd}
 use Rattle.label.specs.Labels.{predicateOf, placeAt}
 use Rattle.diagram.specs.Words.{everyBelow}
 use Rattle.state.specs.Lent.{predicateAt}
-use Rattle.fact_index.specs.Index.{placeCount, objectAt, hashOf, bucketFor, indexedCount, Indexed}
+use Rattle.fact_index.specs.Inner.{placeCount, objectAt, hashOf, bucketFor, indexedCount, Indexed}
 
 -- the object of place j of the label l, where env has an object for each term
 abbrev pub givenAt : List ℕ → ℕ → ℕ → ℕ

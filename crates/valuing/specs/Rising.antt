@@ -13,7 +13,7 @@ use Rattle.diagram.specs.Words.{rowCount}
 use Rattle.diagram.specs.Listing.{diagramOf}
 use Rattle.diagram.specs.Validity.{Valid}
 use Rattle.diagram.specs.Variables.{occurs}
-use Rattle.fact_index.specs.Index.{indexedCount, Indexed}
+use Rattle.fact_index.specs.Inner.{indexedCount, Indexed}
 use Rattle.valuing.specs.Search.{free, TopsBy, lentHolds, Extends, Env}
 
 -- what stands for the leaf x: the lower the leaf, the higher; what is below `best` as high as can be, so that the search beneath a choice ends there

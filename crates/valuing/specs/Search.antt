@@ -15,7 +15,7 @@ use Rattle.valuing.specs.declared.Lookup.{Lookup}
 use Rattle.valuing.specs.declared.Lookup.the-variants.{Free, Bucket}
 use Rattle.state.specs.State.{equated, low}
 use Rattle.state.specs.Lent.{saidBy}
-use Rattle.fact_index.specs.Index.{indexedCount, Indexed}
+use Rattle.fact_index.specs.Inner.{indexedCount, Indexed}
 use Rattle.valuing.specs.Asking.{givenAt, bucketOf}
 
 -- what stands in `env`, a word for each term, where a term has no object yet: no object is that high

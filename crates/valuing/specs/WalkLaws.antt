@@ -15,7 +15,7 @@ use Rattle.state.specs.declared.Valued.the-variants.{Value}
 use Rattle.state.specs.State.{State, Good}
 use Rattle.state.specs.Highest.{Bound}
 use Rattle.state.specs.Lent.{allBelow, isState}
-use Rattle.fact_index.specs.Index.{indexedCount, Indexed}
+use Rattle.fact_index.specs.Inner.{indexedCount, Indexed}
 use Rattle.valuing.specs.Search.{Topping, Tops}
 use Rattle.valuing.specs.Walks.{climbed, Prepared}
 

@@ -16,7 +16,7 @@ use Rattle.state.specs.Lent.{stateOf, isState}
 use Rattle.state.specs.ValueCall.{mostValuations, valuations}
 use Rattle.minimum.specs.Number.{number}
 use Rattle.elimination.specs.Answer.{isTooLarge}
-use Rattle.fact_index.specs.Index.{indexedCount, Indexed}
+use Rattle.fact_index.specs.Inner.{indexedCount, Indexed}
 use Rattle.valuing.specs.Search.{Tops}
 
 -- ===== What is answered =====

@@ -14,7 +14,7 @@ ghost use Rattle.listing.specs.Used.{Used, setFrom, markedVariables, markedMini
 ghost use Rattle.state.specs.Lent.{factWords, factCount, someBelow, allBelow, namesBelow, constantsBelow, isState};
 ghost use Rattle.state.specs.ValueCall.{mostValuations};
 ghost use Rattle.elimination.specs.Answer.{valueAnswer};
-ghost use Rattle.fact_index.specs.Index.{indexedCount, Indexed, Clean, Sought};
+ghost use Rattle.fact_index.specs.Inner.{indexedCount, Indexed, Clean, Sought};
 ghost use Rattle.valuing.specs.Asking.{says, Placed, Asked};
 ghost use Rattle.valuing.specs.Tables.{tablesAnswer, Liftable};
 ghost use Rattle.valuing.specs.Walks.{boundNumber, boundAnswer, climbed, isFew, InState, Prepared};

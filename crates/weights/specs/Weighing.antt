@@ -13,7 +13,8 @@ use Rattle.contradict.specs.declared.Led.{Led}
 use Rattle.contradict.specs.declared.Led.the-variants.{Only, Others, Many}
 use Rattle.mdp.specs.Model.{mostActions}
 use Rattle.model.specs.declared.Head.{Head}
-use Rattle.model.specs.Layout.{variantWords, actionWords, tableWords, LaidVariant, LaidAction}
+use Rattle.model.specs.Inner.{LaidVariant, LaidAction}
+use Rattle.model.specs.Layout.{variantWords, actionWords, tableWords}
 use Rattle.steps.specs.Steps.{BufferListing}
 use Rattle.weights.specs.declared.Weighed.{Weighed}
 use Rattle.weights.specs.declared.Weighed.the-variants.{Done, Refused}

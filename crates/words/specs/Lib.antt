@@ -21,6 +21,7 @@
 pub mod Bytes
 pub mod ByteLaws
 pub mod Words
+pub mod Inner
 pub mod WordLaws
 pub mod Keys
 pub mod KeyLaws

@@ -9,7 +9,8 @@ use lib.ListN.{length, getD, take, List·getD-append}
 use lib.Seq.{length-take-le, getD-take}
 use borrow.Author.Tests.{leb-true, ltb-true, le-leb, lt-ltb}
 use Rattle.words.specs.Bytes.{run, isDigit, isNameByte, isLetter, decimal, over, valueOf}
-use Rattle.words.specs.Words.{IsName, IsNumber, nameForm, numberForm}
+use Rattle.words.specs.Inner.{nameForm}
+use Rattle.words.specs.Words.{IsName, IsNumber, numberForm}
 use Rattle.words.specs.ByteLaws.{run-le, run-take, run-pos, run-append, run-at, letter-name, letter-range, digit-range}
 use Rattle.words.specs.declared.Took.the-variants.{Bytes, Refused}
 

@@ -3,7 +3,7 @@ use Prim.Native.Nat.{ℕ, _≤_, _<_}
 use mathlib.Core.Path.{_≡_}
 use mathlib.Core.List.{List}
 use mathlib.Core.Bool.{true, _&&_, _||_, cond, not}
-use lib.Dec.{leb, ltb, eqb}
+use lib.Dec.{ltb, eqb}
 use lib.ListN.{getD, length}
 use Rattle.words.specs.Bytes.{isLetter, isDigit, isNameByte, run}
 use Rattle.words.specs.declared.Took.{Took}
@@ -16,10 +16,6 @@ IsName n = (isLetter (getD n 0 0) ≡ true) × (run isNameByte n ≡ length n) �
 -- 'Whole numbers are decimal without leading zeros': one digit at least, and no 0 before another
 abbrev pub IsNumber : List ℕ → Type 0
 IsNumber n = (0 < length n) × (run isDigit n ≡ length n) × ((not (eqb (getD n 0 0) 48) || eqb (length n) 1) ≡ true)
-
--- the name that the bytes begin with
-unfoldable pub nameForm : List ℕ → Took
-nameForm s = cond (isLetter (getD s 0 0) && leb (run isNameByte s) 15) (Bytes (run isNameByte s)) Refused
 
 -- the number that the bytes begin with
 unfoldable pub numberForm : List ℕ → Took

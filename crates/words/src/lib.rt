@@ -3,7 +3,8 @@ ghost use mathlib.Core.Path.{_≡_};
 ghost use Prim.Native.Nat.{_+_, _≤_, _<_};
 ghost use lib.ListN.{length, getD, drop};
 ghost use Rattle.words.specs.Bytes.{isLetter, isDigit, isNameByte, run, valueOf};
-ghost use Rattle.words.specs.Words.{nameForm, numberForm};
+ghost use Rattle.words.specs.Inner.{nameForm};
+ghost use Rattle.words.specs.Words.{numberForm};
 ghost use Rattle.words.specs.Keys.{little, keyOf};
 
 // How many bytes a form took, or that the bytes do not begin with one.

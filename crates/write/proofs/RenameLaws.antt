@@ -8,7 +8,8 @@ use lib.ListN.{length, getD, set, take, drop, length-set, length-map, take-appen
 use lib.Seq.{getD-set-same, getD-set-other, drop-set-lt, length-take-le, getD-take}
 use Rattle.basics.specs.Tests.{Cmp, cmp, below, equal, above}
 use Rattle.label.specs.Limits.{leafMark}
-use Rattle.label.specs.Renamings.{mapOf, renamed}
+use Rattle.label.specs.Inner.{mapOf}
+use Rattle.label.specs.Renamings.{renamed}
 use Rattle.label.specs.Callers.{Movable}
 use Rattle.label.proofs.CodeLaws.{under-all}
 use Rattle.diagram.specs.Sizes.{mostRows}
@@ -23,7 +24,8 @@ use Rattle.diagram.specs.ListingValid.{listing-is-valid}
 use Rattle.diagram.specs.Validity.{Valid, tree}
 use Rattle.diagram.specs.DiagramOfListing.{valid-rows, rows-are}
 use Rattle.diagram.specs.RowDiagrams.{branch-row}
-use Rattle.diagram.specs.RowLists.{rowTree, Written, Encoded, Kept, Earlier}
+use Rattle.diagram.specs.Inner.{Written, Encoded, Kept, Earlier}
+use Rattle.diagram.specs.RowLists.{rowTree}
 use Rattle.diagram.specs.RowLaws.{rows-kept, kept-index-is}
 use Rattle.diagram.specs.WrittenRows.{written-listing-words, leaf-words, branch-words}
 use Rattle.store.specs.Load.{renamedOf}

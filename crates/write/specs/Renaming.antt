@@ -7,7 +7,8 @@ use Prim.Native.Nat.{ℕ, _*_, _≤_}
 use lib.ListN.{length, take}
 use lib.Dec.{eqb}
 use Rattle.label.specs.Limits.{leafMark}
-use Rattle.label.specs.Renamings.{mapOf, renamed}
+use Rattle.label.specs.Inner.{mapOf}
+use Rattle.label.specs.Renamings.{renamed}
 use Rattle.label.specs.Callers.{TermMap, Movable}
 use Rattle.diagram.specs.Diagram.{Diagram}
 use Rattle.diagram.specs.Rows.{rows}

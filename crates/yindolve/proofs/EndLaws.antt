@@ -21,9 +21,10 @@ use Rattle.texts.specs.declared.Answered.{Answered}
 use Rattle.texts.specs.declared.Rest.{Rest}
 use Rattle.texts.specs.Ends.{lineLength}
 use Rattle.texts.specs.LineLaws.{line-within, lines-first, lines-none, line-front}
-use Rattle.texts.specs.Sending.{mostLines, progressOf, Started}
-use Rattle.texts.specs.Streaming.{lineRoom, fresh, onBytes, streamStart, restOf, Keeps, behindWritten}
-use Rattle.texts.specs.Whole.{Whole, wholeFrom, wholeOf, Reaches}
+use Rattle.texts.specs.Inner.{progressOf, Started, restOf, Keeps, behindWritten, wholeOf, Reaches}
+use Rattle.texts.specs.Sending.{mostLines}
+use Rattle.texts.specs.Streaming.{lineRoom, fresh, onBytes, streamStart}
+use Rattle.texts.specs.Whole.{Whole, wholeFrom}
 use Rattle.texts.specs.WholeLaws.{whole-some}
 use Rattle.yindolve.specs.declared.Refilled.{Refilled}
 use Rattle.yindolve.specs.Program.{Refills, emptyAt, InHand}

@@ -10,7 +10,8 @@ use lib.Seq.{length-take-le, take-all}
 use Rattle.refusal.specs.declared.Refusal.the-variants.{Form, Place}
 use Rattle.answers.specs.declared.Answer.the-variants.{Refused}
 use Rattle.answers.specs.Answers.{answerLine, answerBytes}
-use Rattle.answers.specs.Writing.{lineBytes, mostBytes}
+use Rattle.answers.specs.Inner.{lineBytes}
+use Rattle.answers.specs.Writing.{mostBytes}
 use Rattle.answers.specs.AnswerLaws.{line-short}
 use Rattle.session.specs.declared.Part.{Part}
 use Rattle.session.specs.Texts.{Progress, replyBytes, afterRest, unfinished, closing, textAnswers}
@@ -26,7 +27,8 @@ use Rattle.texts.specs.declared.Ran.the-variants.{Done, Full}
 use Rattle.texts.specs.Ends.{lineLength}
 use Rattle.texts.specs.LineLaws.{line-within}
 use Rattle.texts.specs.Running.{Filled, allBytes, fillClosing, fillRest, Fills}
-use Rattle.texts.specs.Sending.{mostLines, progressOf}
+use Rattle.texts.specs.Inner.{progressOf}
+use Rattle.texts.specs.Sending.{mostLines}
 use Rattle.texts.specs.Streaming.{lineRoom, Stream, fresh, onBytes, streamStart, onEnd}
 use Rattle.texts.specs.StreamLaws.{on-line, stream-whole, end-apart}
 use Rattle.yindolve.specs.Program.{Finishes, Ends}

@@ -19,10 +19,11 @@ use Rattle.texts.specs.declared.Position.{Position}
 use Rattle.texts.specs.declared.Answered.{Answered}
 use Rattle.texts.specs.declared.Rest.{Rest}
 use Rattle.texts.specs.Ends.{lineLength}
-use Rattle.texts.specs.Sending.{mostLines, progressOf}
-use Rattle.texts.specs.Streaming.{lineRoom, Stream, fresh, onBytes, streamStart, restOf, Keeps, behindWritten}
+use Rattle.texts.specs.Inner.{progressOf, restOf, Keeps, behindWritten, Answerable, Reaches}
+use Rattle.texts.specs.Sending.{mostLines}
+use Rattle.texts.specs.Streaming.{lineRoom, Stream, fresh, onBytes, streamStart}
 use Rattle.texts.specs.StreamLaws.{bytes-append, written-apart, rest-line}
-use Rattle.texts.specs.Whole.{Whole, Answerable, Reaches}
+use Rattle.texts.specs.Whole.{Whole}
 use Rattle.yindolve.specs.declared.Refilled.{Refilled}
 use Rattle.yindolve.specs.Program.{Refills, emptyAt, InHand}
 

@@ -5,15 +5,17 @@ use mathlib.Core.List.{List}
 use Prim.Native.Nat.{ℕ, _+_, _-_, _≤_}
 use lib.ListN.{length, take}
 use Rattle.session.specs.Texts.{afterRest, textAnswers}
-use Rattle.memory.specs.Memory.{Memory, Kept}
+use Rattle.memory.specs.Inner.{Kept}
+use Rattle.memory.specs.Memory.{Memory}
 use Rattle.pipes.specs.declared.Flow.the-variants.{Open, Ended, Unread, Unwritten, TooLong}
 use Rattle.pipes.specs.declared.Tally.{Tally}
 use Rattle.pipes.specs.Tally.{Got, Writes}
 use Rattle.texts.specs.declared.Position.{Position}
 use Rattle.texts.specs.declared.Rest.{Rest}
 use Rattle.texts.specs.Running.{allBytes}
-use Rattle.texts.specs.Sending.{mostLines, progressOf}
-use Rattle.texts.specs.Streaming.{fresh, onBytes, streamStart, behindWritten}
+use Rattle.texts.specs.Inner.{progressOf, behindWritten}
+use Rattle.texts.specs.Sending.{mostLines}
+use Rattle.texts.specs.Streaming.{fresh, onBytes, streamStart}
 use Rattle.yindolve.specs.declared.Refilled.{Refilled}
 
 -- ===== Reading on =====

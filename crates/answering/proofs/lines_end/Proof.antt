@@ -1,4 +1,4 @@
-use Rattle.answers.specs.Writing.{lineBytes}
+use Rattle.answers.specs.Inner.{lineBytes}
 use lib.ListN.{length}
 use Prim.Native.Nat.{_-_}
 use mathlib.Core.Path.{_≡_, refl, sym, _∙_}

@@ -3,8 +3,8 @@ use native.Mathlib.Omega.{arith}
 use Prim.Native.Nat.{_-_}
 use lib.ListN.{length}
 use borrow.Author.Needs.{needs}
-use Rattle.label.specs.Renamings.{mapOf}
-use Rattle.paths.specs.Routes.{literalsIn}
+use Rattle.label.specs.Inner.{mapOf}
+use Rattle.paths.specs.Inner.{literalsIn}
 use Rattle.contradiction.specs.Contradiction.{clashes}
 use Rattle.contradict.proofs.LiteralLaws.{From, from-start, from-hit, from-next, from-end, literal-movable, clash-is}
 use Rattle.contradict.proofs.clash.Statement.{statement}

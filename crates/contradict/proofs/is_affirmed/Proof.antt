@@ -3,7 +3,7 @@ use native.Mathlib.Omega.{arith}
 use Prim.Native.Nat.{_-_}
 use lib.ListN.{length}
 use borrow.Author.Needs.{needs}
-use Rattle.label.specs.Renamings.{mapOf}
+use Rattle.label.specs.Inner.{mapOf}
 use Rattle.contradiction.specs.Contradiction.{affirms}
 use Rattle.contradict.proofs.LiteralLaws.{From, from-start, from-hit, from-next, from-end, literal-movable}
 use Rattle.contradict.proofs.is_affirmed.Statement.{statement}

@@ -1,6 +1,6 @@
 use borrow.Author.Needs.{needs}
 use Prim.Native.Nat.{_-_, _≤_}
-use Rattle.declare.specs.Tables.{Copied}
+use Rattle.declare.specs.Inner.{Copied}
 use Rattle.declare.proofs.ParameterLaws.{copy-start, copy-on, copy-room, copy-end}
 use Rattle.declare.proofs.copy_parameters.Statement.{statement}
 use Rattle.declare.proofs.copy_parameters.Tie as tie

@@ -1,5 +1,5 @@
 use mathlib.Core.Path.{refl}
-use Rattle.fact_index.specs.Index.{bucketFor}
+use Rattle.fact_index.specs.Inner.{bucketFor}
 use borrow.Author.Needs.{needs}
 use Rattle.fact_index.proofs.bucket.Statement.{statement}
 use Rattle.fact_index.proofs.bucket.Tie as tie

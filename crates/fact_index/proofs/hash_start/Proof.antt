@@ -1,5 +1,5 @@
 use mathlib.Core.Path.{refl}
-use Rattle.fact_index.specs.Index.{hashStart}
+use Rattle.fact_index.specs.Inner.{hashStart}
 use borrow.Author.Needs.{needs}
 use Rattle.fact_index.proofs.hash_start.Statement.{statement}
 use Rattle.fact_index.proofs.hash_start.Tie as tie

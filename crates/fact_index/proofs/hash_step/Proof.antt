@@ -1,5 +1,5 @@
 use mathlib.Core.Path.{refl}
-use Rattle.fact_index.specs.Index.{hashStep}
+use Rattle.fact_index.specs.Inner.{hashStep}
 use borrow.Author.Needs.{needs}
 use Rattle.fact_index.proofs.hash_step.Statement.{statement}
 use Rattle.fact_index.proofs.hash_step.Tie as tie

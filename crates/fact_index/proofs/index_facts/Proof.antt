@@ -3,7 +3,7 @@ use mathlib.Core.Path.{_≡_}
 use Prim.Native.Nat.{_-_, _≤_}
 use native.Mathlib.Omega.{arith}
 use lib.ListN.{length, length-set}
-use Rattle.fact_index.specs.Index.{Indexed}
+use Rattle.fact_index.specs.Inner.{Indexed}
 use Rattle.fact_index.specs.IndexLaws.{clean-indexed}
 use Rattle.fact_index.proofs.FactLaws.{index-on, index-full, index-done}
 use Rattle.fact_index.proofs.index_facts.Statement.{statement}

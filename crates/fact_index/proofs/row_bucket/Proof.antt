@@ -1,7 +1,7 @@
 use Prim.Native.Nat.{_-_, _*_, _≤_}
 use lib.ListN.{getD}
 use Rattle.state.specs.Lent.{factWords}
-use Rattle.fact_index.specs.Index.{objectAt}
+use Rattle.fact_index.specs.Inner.{objectAt}
 use Rattle.fact_index.specs.IndexLaws.{Hashing, hashing-start}
 use Rattle.fact_index.proofs.FactLaws.{row-on, row-bucket}
 use borrow.Author.Needs.{needs}

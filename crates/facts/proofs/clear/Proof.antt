@@ -1,6 +1,7 @@
 use borrow.Author.Needs.{needs}
 use Prim.Native.Nat.{_-_, _≤_}
-use Rattle.facts.specs.Words.{factsBase, Unplaced}
+use Rattle.facts.specs.Inner.{Unplaced}
+use Rattle.facts.specs.Words.{factsBase}
 use Rattle.facts.proofs.StateLaws.{clear-begin, clear-next, room-kept, clear-end}
 use Rattle.facts.proofs.clear.Statement.{statement}
 use Rattle.facts.proofs.clear.Tie as tie

@@ -5,7 +5,7 @@ use mathlib.Core.Path.{_≡_, refl, sym, ap, _∙_}
 use Prim.Native.Nat.{_-_, _≤_}
 use lib.ListN.{length, drop}
 use Rattle.words.specs.Keys.{little, keyOf}
-use Rattle.text.specs.Line.{kinds}
+use Rattle.text.specs.Inner.{kinds}
 use Rattle.text.specs.LineForm.{kindIn, kindOf}
 use Rattle.line_reader.specs.Rows.{rowOf}
 use Rattle.line_reader.proofs.KeywordCode.{keyword-here, keyword-on, keyword-none}

@@ -2,7 +2,7 @@
 use borrow.Author.Needs.{needs}
 use native.Mathlib.Omega.{arith}
 use lib.ListN.{length-set}
-use Rattle.names.specs.Keys.{putKey}
+use Rattle.names.specs.Inner.{putKey}
 use Rattle.names.proofs.put.Statement.{statement}
 use Rattle.names.proofs.put.Tie as tie
 

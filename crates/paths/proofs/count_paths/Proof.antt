@@ -3,7 +3,7 @@ use Prim.Native.Nat.{_-_}
 use lib.ListN.{length, length-set}
 use native.Mathlib.Omega.{arith}
 use Rattle.paths.proofs.RouteLaws.{counted-none, counted-more, counted-all}
-use Rattle.paths.specs.Routes.{Counted}
+use Rattle.paths.specs.Inner.{Counted}
 use Rattle.paths.proofs.count_paths.Statement.{statement}
 use Rattle.paths.proofs.count_paths.Tie as tie
 

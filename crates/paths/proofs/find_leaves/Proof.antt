@@ -3,7 +3,7 @@ use Prim.Native.Nat.{_-_, _≤_}
 use lib.ListN.{length}
 use native.Mathlib.Omega.{arith}
 use borrow.Author.Needs.{needs}
-use Rattle.paths.specs.Routes.{Leaves}
+use Rattle.paths.specs.Inner.{Leaves}
 use Rattle.paths.proofs.RouteLaws.{routed-at, routed-small, leaves-none, leaves-more, leaves-all}
 use Rattle.paths.proofs.find_leaves.Statement.{statement}
 use Rattle.paths.proofs.find_leaves.Tie as tie

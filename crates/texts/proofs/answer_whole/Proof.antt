@@ -3,8 +3,7 @@ use mathlib.Core.Path.{_≡_, _∙_}
 use native.Mathlib.Omega.{arith}
 use lib.ListN.{length}
 use Rattle.memory.specs.Memory.{memoryOf}
-use Rattle.texts.specs.Sending.{progressOf}
-use Rattle.texts.specs.Whole.{wholeOf, nextEnd}
+use Rattle.texts.specs.Inner.{progressOf, wholeOf, nextEnd}
 use Rattle.texts.proofs.RunLaws.{Lengths, lengths-same, Answering, answering-first, of-lines, answering-lines, next-inside, answering-next, end-later, answering-done}
 use Rattle.texts.proofs.CarriedLaws.{CarriedSoFar, standing-first, standing-done, standing-next}
 use Rattle.texts.proofs.answer_whole.Statement.{statement}

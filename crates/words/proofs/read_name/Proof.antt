@@ -1,7 +1,7 @@
 -- `words::read_name` meets its contract. Assumes nothing.
 use borrow.Author.Needs.{needs}
 use borrow.Author.Tests.{le-leb, lt-leb}
-use Rattle.words.specs.Words.{nameForm}
+use Rattle.words.specs.Inner.{nameForm}
 use Rattle.words.proofs.read_name.Statement.{statement}
 use Rattle.words.proofs.read_name.Tie as tie
 
