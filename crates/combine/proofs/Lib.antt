@@ -1,3 +1,2 @@
 pub mod LeafLaws
 pub mod FormLaws
-pub mod JoinedLaws

@@ -1,13 +1,11 @@
 -- The answers of a combination, taken apart.
 use mathlib.Core.Path.{_≡_, refl}
-use mathlib.Core.Logic.{_≢_}
 use mathlib.Core.Bool.{true, false}
 use mathlib.Core.List.{List}
 use Prim.Native.Nat.{ℕ, _≤_, _<_}
-use native.Mathlib.Omega.{arith}
 use lib.ListN.{length}
 use lib.Dec.{ltb}
-use borrow.Author.Tests.{le-ltb, ltb-true, ltb-false}
+use borrow.Author.Tests.{ltb-true, ltb-false}
 use Rattle.basics.specs.Tests.{Flag, isTrue, isFalse, flag}
 use Rattle.diagram.specs.Sizes.{spaceRows}
 use Rattle.diagram.specs.Diagram.{Diagram}
@@ -47,12 +45,3 @@ module _ (op : Operation) (limit : ℕ) (a b : Diagram) (rs : List Diagram) {r :
       go (isFalse x) (isFalse y) (isTrue z) = full (rw (x, y, z) at e) (ltb-false _ _ x) y (ltb-true _ _ z)
       go (isFalse x) (isFalse y) (isFalse z) =
           row (rw (x, y, z) at e) (record { few = ltb-false _ _ x; calm = y; room = ltb-false _ _ z; row = refl; count = refl; reached = refl })
-
-  -- with room for more pairs an answer but "too many pairs" is the same
-  pub more-room : (most : ℕ) → limit ≤ most → r ≢ TooManyPairs → r ≡ joinAnswer op most a b rs
-  unfolding joinAnswer
-  more-room most m n = go (flag (ltb limit (pairCount op a b)))
-    where
-      go : Flag (ltb limit (pairCount op a b)) → r ≡ joinAnswer op most a b rs
-      go (isTrue x) = absurd (n (rw x at e))
-      go (isFalse x) = let l = ltb-false limit (pairCount op a b) x in rw (le-ltb most (pairCount op a b) (omega arith)) (rw x at e)

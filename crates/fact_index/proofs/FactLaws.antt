@@ -6,7 +6,7 @@ use native.Mathlib.Omega.{arith}
 use lib.ListN.{length, getD, set, length-set, List·getD-eq-default}
 use Rattle.label.specs.Limits.{mostPlaces}
 use Rattle.state.specs.Lent.{factWords, factCount, predicateAt}
-use Rattle.fact_index.specs.Inner.{placeCount, objectAt, hashEnd, hashGap, hashStart, hashStep, hashOf, bucketFor, bucketAt, indexedCount, Indexed, Clean}
+use Rattle.fact_index.specs.Inner.{placeCount, objectAt, hashEnd, hashGap, hashStep, hashOf, bucketFor, bucketAt, indexedCount, Indexed, Clean}
 use Rattle.fact_index.specs.Index.{buckets}
 use Rattle.fact_index.specs.IndexLaws.{Hashing, hashing-on, index-add, Clearing, clear-start, clear-on, all-cleared}
 

@@ -9,12 +9,12 @@ use lib.ListN.{length, getD, set, length-set}
 use lib.Dec.{eqb}
 use borrow.Author.Tests.{eq-eqb, ne-eqb}
 use lib.Seq.{getD-set-same, getD-set-other}
-use Rattle.basics.specs.Tests.{Cmp, below, equal, above, cmp}
 use Rattle.label.specs.Inner.{Compared}
 use Rattle.label.specs.OrderLaws.{compared-less, compared-not}
 use Rattle.label.specs.Limits.{leafMark}
-use Rattle.table.specs.Chains.{prev}
-use Rattle.table.specs.ChainLaws.{test, prev-same, prev-other, prev-le, prev-gap, prev-hits, prev-none}
+use Rattle.table.specs.Chains.{prev, Walking, Cleared}
+use Rattle.table.specs.ChainLaws.{test, prev-same, prev-other, prev-none}
+use Rattle.table.specs.ChainedLaws.{walking-start, walking-on, link-less, cleared-on, cleared-all}
 use Rattle.diagram.specs.Words.{labelAt, highAt, lowAt}
 use Rattle.apply.specs.declared.Operation.{Operation}
 use Rattle.apply.specs.declared.Operation.the-variants.{Product}
@@ -22,14 +22,13 @@ use Rattle.apply.specs.Pairs.{absorbs}
 use Rattle.plan.specs.Walk.{isEnd, lesser, pairLabel, onHigh, onLow}
 use Rattle.plan.specs.WalkLaws.{lesser-le, lesser-gt, end-label, lower-label, descend-first, descend-second, descend-both}
 use Rattle.plan.specs.Plan.{buckets, keyCount, hashOf, keyAt, linkAt, hashAt, putEntry, Index, Clean, Touched, packBase, wentOf, Entered}
+use Rattle.plan.specs.PlanLaws.{chained}
 use Rattle.plan.specs.declared.Went.{Went}
 use Rattle.plan.specs.declared.Went.the-variants.{To, Full}
 
--- the search of a chain for the key k: the entries at or above `at` are passed, and `at` is 0 or one more than an entry of k's bucket
+-- the search of a chain for the key k
 pub record Chain (ws : List ℕ) (count k at : ℕ) : Type 0 where
-  pub below : at ≤ count
-  pub bucket : (i : ℕ) → at ≡ suc i → hashAt ws i ≡ hashOf k
-  pub passed : (i : ℕ) → at ≤ i → i < count → keyAt ws i ≡ k → ⊥
+  pub walking : Walking (hashAt ws) count (hashOf k) (λ i. keyAt ws i ≡ k) at
 
 in-bucket : (ws : List ℕ) (k i : ℕ) → keyAt ws i ≡ k → hashAt ws i ≡ hashOf k
 unfolding hashAt
@@ -45,54 +44,35 @@ last-place f b (suc n) i h e g =
 
 module _ {ws heads : List ℕ} {limit count k : ℕ} (t : Index ws heads limit count) where
   pub chain-start : {b at : ℕ} → (b ≡ hashOf k) × (b < buckets) → at ≡ getD heads b 0 → Chain ws count k at
-  chain-start {b} {at} h e =
-      let q : at ≡ prev (hashAt ws) b count = e ∙ t .head b (h .1) in
-      record {
-        below = omega (arith, prev-le (hashAt ws) b count);
-        bucket = λ i p. prev-hits (hashAt ws) b count i (sym q ∙ p) ∙ h .0;
-        passed = λ i l m p. prev-gap (hashAt ws) b count i (omega arith) m (in-bucket ws k i p ∙ sym (h .0));
-      }
+  chain-start h e = record { walking = walking-start (chained t) (in-bucket ws k) (omega (arith, h .0, h .1)) (e ∙ ap (λ (x : ℕ). getD heads x 0) (h .0)) }
 
   module _ {at : ℕ} (w : Chain ws count k at) (n : at ≡ 0 → ⊥) where
     up : suc (at - 1) ≡ at
     up = omega arith
 
-    link-is : linkAt ws (at - 1) ≡ prev (hashAt ws) (hashAt ws (at - 1)) (at - 1)
-    link-is = t .link (at - 1) (omega (arith, w .below))
-
     pub chain-hit : getD ws ((at - 1) * 5) 0 ≡ k → at ≡ prev (keyAt ws) k count
     unfolding keyAt
-    chain-hit e = sym (last-place (keyAt ws) k count (at - 1) (omega (arith, w .below)) e (λ i l m. w .passed i (omega arith) m) ∙ up)
+    chain-hit e = sym (last-place (keyAt ws) k count (at - 1) (omega (arith, w .walking .below)) e (λ i l m. w .walking .passed i (omega arith) m) ∙ up)
 
     pub chain-on : (getD ws ((at - 1) * 5) 0 ≡ k → ⊥) → Chain ws count k (getD ws ((at - 1) * 5 + 1) 0)
     unfolding keyAt linkAt
-    chain-on f = record {
-      below = omega (arith, link-is, prev-le (hashAt ws) (hashAt ws (at - 1)) (at - 1), w .below);
-      bucket = λ j p. prev-hits (hashAt ws) (hashAt ws (at - 1)) (at - 1) j (sym link-is ∙ p) ∙ w .bucket (at - 1) (sym up);
-      passed = λ i l m p. on i l m p (cmp i (at - 1));
-    }
-      where
-        on : (i : ℕ) → linkAt ws (at - 1) ≤ i → i < count → keyAt ws i ≡ k → Cmp i (at - 1) → ⊥
-        on i l m p (below u) =
-            prev-gap (hashAt ws) (hashAt ws (at - 1)) (at - 1) i (omega (arith, link-is)) u (in-bucket ws k i p ∙ sym (w .bucket (at - 1) (sym up)))
-        on i l m p (equal u) = f (subst (λ (j : ℕ). keyAt ws j ≡ k) u p)
-        on i l m p (above u) = w .passed i (omega arith) m p
+    chain-on f = record { walking = walking-on (chained t) (in-bucket ws k) (w .walking) n f }
 
     pub chain-less : getD ws ((at - 1) * 5 + 1) 0 < at
     unfolding linkAt
-    chain-less = omega (arith, link-is, prev-le (hashAt ws) (hashAt ws (at - 1)) (at - 1))
+    chain-less = link-less (chained t) (w .walking .below) n
 
   pub chain-none : {at : ℕ} → Chain ws count k at → at ≡ 0 → 0 ≡ prev (keyAt ws) k count
-  chain-none w e = sym (prev-none (keyAt ws) k count (λ i l p. w .passed i (omega arith) l p))
+  chain-none w e = sym (prev-none (keyAt ws) k count (λ i l p. w .walking .passed i (omega arith) l p))
 
 -- the loop of `clear`: the buckets that no entry from i on has are clean
 pub record Clearing (ws heads : List ℕ) (count i : ℕ) : Type 0 where
   pub below : i ≤ count
   pub slots : buckets ≤ length heads
-  pub others : (b : ℕ) → b < buckets → ((k : ℕ) → i ≤ k → k < count → hashAt ws k ≡ b → ⊥) → getD heads b 0 ≡ 0
+  pub cleared : Cleared (hashAt ws) buckets (λ b. getD heads b 0) count i
 
 pub clear-start : {ws heads : List ℕ} {count : ℕ} → Touched ws heads count → Clearing ws heads count 0
-clear-start t = record { below = zero-le; slots = t .slots; others = λ b h f. t .others b h (λ k l. f k zero-le l) }
+clear-start t = record { below = zero-le; slots = t .slots; cleared = record { others = λ b h f. t .others b h (λ k l. f k zero-le l) } }
 
 pub clear-key : {ws heads : List ℕ} {count i : ℕ} → Touched ws heads count → i < count → getD ws (i * 5) 0 < keyCount
 unfolding keyAt
@@ -104,15 +84,11 @@ unfolding hashAt keyAt
 clear-on {ws} {heads} {count} {i} {b} w l h = record {
   below = omega arith;
   slots = rw length-set (w .slots);
-  others = λ c m f. ⊎-elim
-      (λ (e : c ≡ b). subst (λ (z : ℕ). getD (set heads b 0) z 0 ≡ 0) (sym e) (getD-set-same heads b 0 0 (omega (arith, h .1, w .slots))))
-      (λ (e : c ≡ b → ⊥). getD-set-other heads b c 0 0 e
-      ∙ w .others c m (λ k u v q. ⊎-elim (λ (s : k ≡ i). e (sym q ∙ ap (hashAt ws) s ∙ sym (h .0))) (λ (s : k ≡ i → ⊥). f k (omega arith) v q) (test k i)))
-      (test c b);
+  cleared = cleared-on (w .cleared) b _ (h .0) (getD-set-same heads b 0 0 (omega (arith, h .1, w .slots))) (λ x m e. getD-set-other heads b x 0 0 e);
 }
 
 pub clear-end : {ws heads : List ℕ} {count i : ℕ} → Clearing ws heads count i → count ≤ i → Clean heads
-clear-end {ws} {heads} {count} {i} w h = record { slots = w .slots; zeros = λ b l. w .others b l (λ k u v q. omega arith) }
+clear-end w h = record { slots = w .slots; zeros = cleared-all (w .cleared) h }
 
 -- the ways out of `add`
 module _ {ws heads : List ℕ} {limit count k label first second : ℕ} where

@@ -3,7 +3,7 @@ use mathlib.Core.Bool.{true, false}
 use mathlib.Core.Path.{_≡_, refl, sym, ap, subst, _∙_}
 use mathlib.Core.Logic.{_⊎_, ⊎-elim}
 use mathlib.Core.List.{List, [], _∷_, _++_}
-use Prim.Native.Nat.{ℕ, zero, suc, _+_, _-_, _*_, _<_, _≤_, zero-le}
+use Prim.Native.Nat.{ℕ, zero, suc, _+_, _*_, _<_, _≤_, zero-le}
 use native.Mathlib.Nat.{eq-or-lt-of-le, le-of-suc-le-suc}
 use native.Mathlib.Numerals.{add-one}
 use native.Mathlib.Omega.{arith}
@@ -12,9 +12,10 @@ use lib.Seq.{getD-at, getD-set-same, getD-set-other, ext-getD}
 use Rattle.basics.specs.Members.{mem, nodup-snoc}
 use Rattle.diagram.specs.Sizes.{spaceRows}
 use Rattle.diagram.specs.Words.{highAt}
-use Rattle.table.specs.Chains.{prev}
+use Rattle.table.specs.Chains.{Chained}
 use Rattle.table.specs.Table.{mostIndexed}
-use Rattle.table.specs.ChainLaws.{test, prev-zero, prev-same, prev-other, prev-none, prev-ext}
+use Rattle.table.specs.ChainLaws.{test}
+use Rattle.table.specs.ChainedLaws.{chained-none, chained-as, chained-more, cleared-start}
 use Rattle.apply.specs.declared.Operation.{Operation}
 use Rattle.plan.specs.Walk.{Pair, samePair, isEnd, pairLabel, onHigh, onLow}
 use Rattle.plan.specs.WalkLaws.{pair-ext, pair-test}
@@ -158,6 +159,10 @@ module _ (ws : List ℕ) (n key link label first second : ℕ) where
     unfolding secondAt putEntry a b d e
     second-same = getD-set-same e (n * 5 + 4) second 0 (omega (arith, length-e))
 
+-- the index as chains of any places
+pub chained : {ws heads : List ℕ} {limit n : ℕ} → Index ws heads limit n → Chained (hashAt ws) buckets (λ b. getD heads b 0) (linkAt ws) n
+chained t = record { heads = t .head; links = t .link }
+
 -- the index with an entry more
 module _ (ws heads : List ℕ) (limit n : ℕ) (t : Index ws heads limit n) (room : n < limit) (key label first second : ℕ) (small : key < keyCount) where
   to : List ℕ
@@ -190,9 +195,6 @@ module _ (ws heads : List ℕ) (limit n : ℕ) (t : Index ws heads limit n) (roo
   unfolding to
   old-hash k h = hash-other ws n key (getD heads (hashOf key) 0) label first second k (λ e. omega arith)
 
-  kept : (b m : ℕ) → m ≤ n → prev (hashAt ws) b m ≡ prev (hashAt to) b m
-  kept b m h = prev-ext (hashAt ws) (hashAt to) b m (λ k l. sym (old-hash k (omega arith)))
-
   to-length : length to ≡ length ws
   unfolding to
   to-length = length-entry ws n key (getD heads (hashOf key) 0) label first second
@@ -205,19 +207,14 @@ module _ (ws heads : List ℕ) (limit n : ℕ) (t : Index ws heads limit n) (roo
     within = omega arith;
     keys = λ k h. ⊎-elim (λ (e : k ≡ n). subst (λ (z : ℕ). keyAt to z < keyCount) (sym e) (omega (arith, to-key)))
         (λ (e : k ≡ n → ⊥). omega (arith, old-key k (omega arith), t .keys k (omega arith))) (test k n);
-    head = λ b h. ⊎-elim
-        (λ (e : b ≡ hashOf key). subst (λ (z : ℕ). getD (set heads (hashOf key) (n + 1)) z 0 ≡ prev (hashAt to) z (n + 1)) (sym e)
-        (getD-set-same heads (hashOf key) (n + 1) 0 (omega (arith, hash-less key, t .slots)) ∙ rw add-one (sym (prev-same (hashAt to) (hashOf key) n to-hash))))
-        (λ (e : b ≡ hashOf key → ⊥). getD-set-other heads (hashOf key) b (n + 1) 0 e ∙ t .head b h ∙ kept b n (omega arith)
-        ∙ rw add-one (sym (prev-other (hashAt to) b n (λ q. e (sym q ∙ to-hash)))))
-        (test b (hashOf key));
-    link = λ k h. ⊎-elim
-        (λ (e : k ≡ n). subst (λ (z : ℕ). linkAt to z ≡ prev (hashAt to) (hashAt to z) z) (sym e)
-        (to-link ∙ t .head (hashOf key) (hash-less key) ∙ kept (hashOf key) n (omega arith) ∙ ap (λ (b : ℕ). prev (hashAt to) b n) (sym to-hash)))
-        (λ (e : k ≡ n → ⊥). let l : k < n = omega arith in
-        old-link k l ∙ t .link k l ∙ kept (hashAt ws k) k (omega arith) ∙ ap (λ (b : ℕ). prev (hashAt to) b k) (sym (old-hash k l)))
-        (test k n);
+    head = more .heads;
+    link = more .links;
   }
+    where
+      more : Chained (hashAt to) buckets (λ b. getD (set heads (hashOf key) (n + 1)) b 0) (linkAt to) (n + 1)
+      more =
+          chained-more (chained-as (chained t) (hashAt to) (λ k l. sym (old-hash k l))) (hashOf key) _ _ to-hash (hash-less key)
+          (getD-set-same heads (hashOf key) (n + 1) 0 (omega (arith, hash-less key, t .slots))) (λ b l e. getD-set-other heads (hashOf key) b (n + 1) 0 e) to-link old-link
 
   pub index-added : Index (putEntry ws n key (getD heads (hashOf key) 0) label first second) (set heads (hashOf key) (n + 1)) limit (n + 1)
   unfolding to
@@ -320,9 +317,12 @@ index-empty ws heads limit h g c = record {
   small = g;
   within = zero-le;
   keys = λ k l. absurd (omega arith);
-  head = λ b l. c .zeros b l ∙ sym (prev-zero (hashAt ws) b);
-  link = λ k l. absurd (omega arith);
+  head = none .heads;
+  link = none .links;
 }
+  where
+    none : Chained (hashAt ws) buckets (λ b. getD heads b 0) (linkAt ws) 0
+    none = chained-none (hashAt ws) _ (c .zeros)
 
 -- an index may be cleared
 pub index-touched : {ws heads : List ℕ} {limit count : ℕ} → Index ws heads limit count → Touched ws heads count
@@ -330,7 +330,7 @@ index-touched {ws} {heads} {limit} {count} t = record {
   words = omega (arith, t .words, t .within);
   slots = t .slots;
   keys = t .keys;
-  others = λ b h f. t .head b h ∙ prev-none (hashAt ws) b count f;
+  others = λ b h f. cleared-start (chained t) .others b h (λ k u l. f k l);
 }
 
 pub plan-touched : {op : Operation} {x y ws heads : List ℕ} {limit : ℕ} {ps : List Pair} → Plan op x y ws heads limit ps → Touched ws heads (length ps)

@@ -300,10 +300,10 @@ module _ {s heads links memo : List ℕ} {count i : ℕ} (x : Exchangeable s hea
       leaf-formation = subst (λ (y : Diagram). Formation y (onto y (diagramsOf s count)) r s′ heads′ links′) leaf-is (leaf-onto s count f)
 
       pub leaf-notable : Notable memo i r
-      leaf-notable = formed-notable (x .noted) (x .row, refl) leaf-formation (onto-begins (exchanged (tree s i)) (diagramsOf s count))
+      leaf-notable = formed-notable (x .noted) (x .row, refl) leaf-formation (onto-keeps (exchanged (tree s i)) (diagramsOf s count))
 
       pub exchange-leaf : {a : Formed} {memo′ : List ℕ} → (a ≡ r) × (memo′ ≡ notedFor i r memo) → Exchanged s count i a s′ heads′ links′ memo′
-      exchange-leaf e = formed-noted (x .noted) (x .row, refl) leaf-formation (onto-begins (exchanged (tree s i)) (diagramsOf s count)) e
+      exchange-leaf e = formed-noted (x .noted) (x .row, refl) leaf-formation (onto-keeps (exchanged (tree s i)) (diagramsOf s count)) e
 
     -- a branch
     module _ (m : row .label ≡ leafMark → ⊥) where

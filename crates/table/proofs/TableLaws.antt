@@ -3,78 +3,40 @@ use mathlib.Core.Bool.{Bool, true, false, cond}
 use mathlib.Core.Path.{_≡_, refl, sym, ap, subst, _∙_}
 use mathlib.Core.Logic.{_⊎_, ⊎-elim}
 use mathlib.Core.List.{List, [], _∷_, _++_}
-use Prim.Native.Nat.{ℕ, suc, _+_, _-_, _*_, _<_, _≤_, zero-le}
-use native.Mathlib.Numerals.{add-one}
+use Prim.Native.Nat.{ℕ, _+_, _-_, _*_, _<_, _≤_, zero-le}
 use native.Mathlib.Omega.{arith}
 use borrow.Author.Tests.{eqb-true, eqb-false, eq-eqb, ne-eqb}
 use lib.ListN.{length, getD, set, length-set, replicate, length-replicate, getD-replicate}
 use lib.Seq.{getD-set-same, getD-set-other}
 use lib.Dec.{eqb}
-use Rattle.basics.specs.Tests.{Cmp, below, equal, above, cmp}
 use Rattle.table.specs.declared.Row.{Row}
 use Rattle.table.specs.declared.Found.{Found}
 use Rattle.table.specs.declared.Found.the-variants.{At, Nothing}
 use Rattle.table.specs.declared.Added.{Added}
 use Rattle.table.specs.declared.Added.the-variants.{Old, New, Full}
 use Rattle.table.specs.Rows.{rowAt, putAt, rows, firstIn, sameRow}
-use Rattle.table.specs.Chains.{prev}
-use Rattle.table.specs.ChainLaws.{test, prev-zero, prev-same, prev-other, prev-le, prev-gap, prev-hits, prev-ext}
+use Rattle.table.specs.Chains.{Chained, Walking}
+use Rattle.table.specs.ChainLaws.{test}
+use Rattle.table.specs.ChainedLaws.{chained-none, chained-as, chained-more, walking-start, walking-on, link-less}
 use Rattle.table.specs.Table.{buckets, mostIndexed, hashOf, hashAt, Table, Addable, Clean, addAnswer, addRows, addWhere, AddPost}
 use Rattle.table.proofs.RowLaws.{found-at, found-none, put-other, put-same, length-put, length-rows, rows-put, drop-put, none-found, said-same, said-other}
 
--- the walk of a chain for the row r: the rows at or above `at` are passed, and `at` is 0 or one more than a place in r's bucket
+-- the walk of a chain for the row r
 pub record Walk (s : List ℕ) (count : ℕ) (r : Row) (at : ℕ) : Type 0 where
-  pub below : at ≤ count
-  pub bucket : (i : ℕ) → at ≡ suc i → hashAt s i ≡ hashOf r
-  pub passed : (k : ℕ) → at ≤ k → k < count → rowAt s k ≡ r → ⊥
+  pub walking : Walking (hashAt s) count (hashOf r) (λ k. rowAt s k ≡ r) at
 
 -- a row of another bucket is another row
 in-bucket : (s : List ℕ) (r : Row) (k : ℕ) → rowAt s k ≡ r → hashAt s k ≡ hashOf r
 unfolding hashAt
 in-bucket s r k e = ap hashOf e
 
-module _ (s heads links : List ℕ) (limit count : ℕ) (t : Table s heads links limit count) (r : Row) where
-  pub walk-start : (b : ℕ) → b ≡ hashOf r → b < buckets → Walk s count r (getD heads b 0)
-  walk-start b e h =
-      let q : getD heads b 0 ≡ prev (hashAt s) b count = t .head b h in
-      record {
-        below = omega (arith, prev-le (hashAt s) b count);
-        bucket = λ i p. prev-hits (hashAt s) b count i (sym q ∙ p) ∙ e;
-        passed = λ k l m p. prev-gap (hashAt s) b count k (omega arith) m (in-bucket s r k p ∙ sym e);
-      }
-
-  pub walk-step : (i : ℕ) → Walk s count r (suc i) → (rowAt s i ≡ r → ⊥) → Walk s count r (getD links i 0)
-  walk-step i w f =
-      record {
-        below = omega (arith, q, prev-le (hashAt s) (hashAt s i) i);
-        bucket = λ j p. prev-hits (hashAt s) (hashAt s i) i j (sym q ∙ p) ∙ e;
-        passed = λ k l m p. on k l m p (cmp k i);
-      }
-    where
-      e : hashAt s i ≡ hashOf r
-      e = w .bucket i refl
-
-      q : getD links i 0 ≡ prev (hashAt s) (hashAt s i) i
-      q = t .link i (omega arith)
-
-      on : (k : ℕ) → getD links i 0 ≤ k → k < count → rowAt s k ≡ r → Cmp k i → ⊥
-      on k l m p (below u) = prev-gap (hashAt s) (hashAt s i) i k (omega (arith, q)) u (in-bucket s r k p ∙ sym e)
-      on k l m p (equal u) = f (subst (λ (j : ℕ). rowAt s j ≡ r) u p)
-      on k l m p (above u) = w .passed k u m p
-
-  pub walk-hit : (i : ℕ) → Walk s count r (suc i) → rowAt s i ≡ r → firstIn (rows s count) r ≡ At i
-  walk-hit i w e = found-at s count r i (omega arith) e (λ j l p. t .apart i j (omega arith) l (p ∙ sym e))
-
-  pub walk-end : Walk s count r 0 → firstIn (rows s count) r ≡ Nothing
-  walk-end w = found-none s count r (λ j l p. w .passed j zero-le l p)
+chained : {s heads links : List ℕ} {limit count : ℕ} → Table s heads links limit count → Chained (hashAt s) buckets (λ b. getD heads b 0) (λ i. getD links i 0) count
+chained t = record { heads = t .head; links = t .link }
 
 -- a link that is not 0 leads down
-pub walk-at : {s : List ℕ} {count at : ℕ} {r : Row} → Walk s count r at → (at ≡ 0 → ⊥) → Walk s count r (suc (at - 1))
-walk-at {s} {count} {at} {r} w n = subst (Walk s count r) (omega arith) w
-
 pub walk-less : {s heads links : List ℕ} {limit count at next : ℕ} {r : Row} → Table s heads links limit count → Walk s count r at → (at ≡ 0 → ⊥)
     → next ≡ getD links (at - 1) 0 → next < at
-walk-less {s} {heads} {links} {limit} {count} {at} t w n e = omega (arith, t .link (at - 1) (omega arith), prev-le (hashAt s) (hashAt s (at - 1)) (at - 1))
+walk-less t w n e = let l = link-less (chained t) (w .walking .below) n in omega arith
 
 -- a new row at the end
 module _ (s heads links : List ℕ) (limit count : ℕ) (t : Table s heads links limit count) (r : Row) (room : count < limit)
@@ -100,29 +62,18 @@ module _ (s heads links : List ℕ) (limit count : ℕ) (t : Table s heads links
     places = rw length-set (t .places);
     small = t .small;
     within = omega arith;
-    head = λ x h. ⊎-elim
-        (λ (p : x ≡ b). subst (λ (y : ℕ). getD (set heads b (count + 1)) y 0 ≡ prev f y (count + 1)) (sym p)
-        (getD-set-same heads b _ 0 (omega arith) ∙ rw add-one (sym (prev-same f b count new-hash))))
-        (λ (p : x ≡ b → ⊥). getD-set-other heads b x _ 0 p ∙ t .head x h ∙ kept x count (omega arith)
-        ∙ rw add-one (sym (prev-other f x count (λ q. p (sym q ∙ new-hash)))))
-        (test x b);
-    link = λ i h. ⊎-elim
-        (λ (p : i ≡ count). subst (λ (y : ℕ). getD (set links count (getD heads b 0)) y 0 ≡ prev f (f y) y) (sym p)
-        (getD-set-same links count _ 0 (omega arith) ∙ t .head b lt ∙ kept b count (omega arith) ∙ rw new-hash))
-        (λ (p : i ≡ count → ⊥). let l : i < count = omega arith in
-        getD-set-other links count i _ 0 p ∙ t .link i l ∙ kept (hashAt s i) i (omega arith) ∙ rw (old-hash i l))
-        (test i count);
+    head = more .heads;
+    link = more .links;
     apart = λ i j h l p. ⊎-elim
         (λ (q : i ≡ count). new j (omega arith) (sym (old-row j (omega arith)) ∙ p ∙ subst (λ (y : ℕ). rowAt (putAt s count r) y ≡ r) (sym q) new-row))
         (λ (q : i ≡ count → ⊥). t .apart i j (omega arith) l (sym (old-row j (omega arith)) ∙ p ∙ old-row i (omega arith)))
         (test i count);
   }
     where
-      f : ℕ → ℕ
-      f = hashAt (putAt s count r)
-
-      kept : (x n : ℕ) → n ≤ count → prev (hashAt s) x n ≡ prev f x n
-      kept x n h = prev-ext (hashAt s) f x n (λ k l. sym (old-hash k (omega arith)))
+      more : Chained (hashAt (putAt s count r)) buckets (λ x. getD (set heads b (count + 1)) x 0) (λ i. getD (set links count (getD heads b 0)) i 0) (count + 1)
+      more =
+          chained-more (chained-as (chained t) (hashAt (putAt s count r)) (λ k l. sym (old-hash k l))) b _ _ new-hash lt (getD-set-same heads b _ 0 (omega arith))
+          (λ x h p. getD-set-other heads b x _ 0 p) (getD-set-same links count _ 0 (omega arith)) (λ k l. getD-set-other links count k _ 0 (omega arith))
 
 -- the three ways out of `find_or_add`
 module _ (s heads links : List ℕ) (limit count : ℕ) (t : Table s heads links limit count) (r : Row) where
@@ -209,10 +160,13 @@ empty s heads links limit h₁ h₂ h₃ c = record {
   places = h₂;
   small = h₃;
   within = zero-le;
-  head = λ b h. c .zeros b h ∙ sym (prev-zero (hashAt s) b);
-  link = λ i h. absurd (omega arith);
+  head = none .heads;
+  link = none .links;
   apart = λ i j h l p. omega arith;
 }
+  where
+    none : Chained (hashAt s) buckets (λ b. getD heads b 0) (λ i. getD links i 0) 0
+    none = chained-none (hashAt s) _ (c .zeros)
 
 -- an index that was just made is clean
 pub clean-made : (n : ℕ) → buckets ≤ n → Clean (replicate n 0)
@@ -239,17 +193,21 @@ module _ {s heads links : List ℕ} {limit count : ℕ} {r : Row} {f : Found} (t
 -- the ways through `lookup`, in the words of what `row_at` and `same` ensure
 module _ {s heads links : List ℕ} {limit count : ℕ} {r : Row} (t : Table s heads links limit count) where
   pub look-start : {b at : ℕ} → (b ≡ hashOf r) × (b < buckets) → at ≡ getD heads b 0 → Walk s count r at
-  look-start {b} {at} h e = rw e (walk-start s heads links limit count t r b (h .0) (h .1))
+  look-start {b} {at} h e =
+      record { walking = walking-start (chained t) (in-bucket s r) (omega (arith, h .0, h .1)) (e ∙ ap (λ (x : ℕ). getD heads x 0) (h .0)) }
 
   pub look-none : {at : ℕ} → Walk s count r at → at ≡ 0 → Nothing ≡ firstIn (rows s count) r
-  look-none w e = sym (walk-end s heads links limit count t r (subst (Walk s count r) e w))
+  look-none w e = sym (found-none s count r (λ j l p. w .walking .passed j (omega arith) l p))
 
   module _ {at : ℕ} {x : Row} {b : Bool} (w : Walk s count r at) (n : at ≡ 0 → ⊥) (p : x ≡ rowAt s (at - 1)) (q : b ≡ sameRow x r) where
     pub look-hit : b ≡ true → At (at - 1) ≡ firstIn (rows s count) r
-    look-hit e = sym (walk-hit s heads links limit count t r (at - 1) (walk-at w n) (said-same q p e))
+    look-hit e =
+        let z = said-same q p e in
+        let m : at - 1 < count = omega (arith, w .walking .below) in
+        sym (found-at s count r (at - 1) m z (λ j l y. t .apart (at - 1) j m l (y ∙ sym z)))
 
     pub look-on : {next : ℕ} → b ≡ false → next ≡ getD links (at - 1) 0 → Walk s count r next
-    look-on e f = rw f (walk-step s heads links limit count t r (at - 1) (walk-at w n) (said-other q p e))
+    look-on e f = rw f (record { walking = walking-on (chained t) (in-bucket s r) (w .walking) n (said-other q p e) })
 
 -- the way out of `add`, in the words of what `hash` and `put` ensure
 pub add-out : {s heads links : List ℕ} {limit count : ℕ} {r : Row} {b : ℕ} {s′ : List ℕ} → Addable s heads links limit count r

@@ -2,4 +2,5 @@
 pub mod Rows
 pub mod Chains
 pub mod ChainLaws
+pub mod ChainedLaws
 pub mod Table
