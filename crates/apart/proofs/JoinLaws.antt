@@ -5,16 +5,14 @@ use mathlib.Core.List.{List}
 use Prim.Native.Nat.{ℕ, suc, _*_, _≤_, _<_}
 use native.Mathlib.Omega.{arith}
 use lib.ListN.{length, replicate, length-replicate, getD-replicate}
-use lib.Dec.{ltb}
-use borrow.Author.Tests.{lt-ltb, le-ltb, ltb-true, ltb-false}
-use Rattle.basics.specs.Tests.{Flag, isTrue, isFalse, flag}
+use borrow.Author.Tests.{lt-ltb, le-ltb}
 use Rattle.basics.specs.Members.{mem}
 use Rattle.label.specs.Limits.{leafMark}
 use Rattle.refusal.specs.declared.Refusal.the-variants.{Pairs, Value, Space}
 use Rattle.diagram.specs.Sizes.{spaceRows, mostPairs, highestValue}
 use Rattle.diagram.specs.Diagram.{Diagram, Ordered, leaf, branch, same}
 use Rattle.diagram.specs.Words.{labelAt, highAt, lowAt}
-use Rattle.diagram.specs.Listing.{index, Fine}
+use Rattle.diagram.specs.Listing.{Fine}
 use Rattle.diagram.specs.ListingLaws.{index-less, getD-index}
 use Rattle.diagram.specs.Validity.{tree}
 use Rattle.diagram.specs.Inner.{Encoded}
@@ -38,72 +36,51 @@ use Rattle.combine.specs.declared.Joined.{Joined}
 use Rattle.combine.specs.declared.Joined.the-variants.{At, TooManyPairs, TooHighValue, NoRoom}
 use Rattle.combine.specs.RowPairs.{Operand}
 use Rattle.combine.specs.Paired.{Pairable}
+use Rattle.combine.specs.Endings.{Told, Ended, many, high, full, row, ended}
 use Rattle.combine.specs.Joining.{rowsAfter, joinAnswer, countAfter, diagramsAfter, Joint}
 use Rattle.apart.specs.Results.{Regular, Writable, resultAnswer, ResultWritten, Joinable, joinedAnswer, JoinedUp}
 
--- the answers of `join_rows`, taken apart
-record Told (op : Operation) (limit : ℕ) (a b : Diagram) (rs : List Diagram) (k n p : ℕ) : Type 0 where
-  few : pairCount op a b ≤ limit
-  calm : overflows (operate op) (pairs op a b) ≡ false
-  room : length (rowsAfter op a b rs) ≤ spaceRows
-  row : k ≡ index (apply (operate op) a b) (rowsAfter op a b rs)
-  count : n ≡ length (rowsAfter op a b rs)
-  reached : p ≡ pairCount op a b
-
+-- the answers of `join_rows`, each by itself
 module _ (op : Operation) (limit : ℕ) (a b : Diagram) (rs : List Diagram) where
-  abbrev Many : Type 0
-  Many = Flag (ltb limit (pairCount op a b))
-
-  abbrev High : Type 0
-  High = Flag (overflows (operate op) (pairs op a b))
-
-  abbrev Wide : Type 0
-  Wide = Flag (ltb spaceRows (length (rowsAfter op a b rs)))
-
-  abbrev Result : Joined
-  Result = At (index (apply (operate op) a b) (rowsAfter op a b rs)) (length (rowsAfter op a b rs)) (pairCount op a b)
-
-  at-told : {k n p : ℕ} → At k n p ≡ joinAnswer op limit a b rs → Told op limit a b rs k n p
-  unfolding joinAnswer
-  at-told {k} {n} {p} e = go (flag (ltb limit (pairCount op a b))) (flag (overflows (operate op) (pairs op a b))) (flag (ltb spaceRows (length (rowsAfter op a b rs))))
+  at-told : {k c l : ℕ} → At k c l ≡ joinAnswer op limit a b rs → Told op limit a b rs k c l
+  at-told {k} {c} {l} e = go (ended op limit a b rs e)
     where
-      go : Many → High → Wide → Told op limit a b rs k n p
-      go (isTrue x) y z = let w : At k n p ≡ TooManyPairs = rw x at e in absurd (let o : _≡_ {A = ℕ} 0 1 = cc in omega arith)
-      go (isFalse x) (isTrue y) z = let w : At k n p ≡ TooHighValue = rw (x, y) at e in absurd (let o : _≡_ {A = ℕ} 0 1 = cc in omega arith)
-      go (isFalse x) (isFalse y) (isTrue z) = let w : At k n p ≡ NoRoom = rw (x, y, z) at e in absurd (let o : _≡_ {A = ℕ} 0 1 = cc in omega arith)
-      go (isFalse x) (isFalse y) (isFalse z) =
-          let w : At k n p ≡ Result = rw (x, y, z) at e in
-          record { few = ltb-false _ _ x; calm = y; room = ltb-false _ _ z; row = cc; count = cc; reached = cc }
+      go : Ended op limit a b rs (At k c l) → Told op limit a b rs k c l
+      go (many q x) = absurd (let o : _≡_ {A = ℕ} 0 1 = cc in omega arith)
+      go (high q x y) = absurd (let o : _≡_ {A = ℕ} 0 1 = cc in omega arith)
+      go (full q x y z) = absurd (let o : _≡_ {A = ℕ} 0 1 = cc in omega arith)
+      go (row {i} {n} {p} q t) =
+          let u : k ≡ i = cc in
+          let v : c ≡ n = cc in
+          let w : l ≡ p = cc in
+          record { few = t .few; calm = t .calm; room = t .room; row = u ∙ t .row; count = v ∙ t .count; reached = w ∙ t .reached }
 
   many-told : TooManyPairs ≡ joinAnswer op limit a b rs → limit < pairCount op a b
-  unfolding joinAnswer
-  many-told e = go (flag (ltb limit (pairCount op a b))) (flag (overflows (operate op) (pairs op a b))) (flag (ltb spaceRows (length (rowsAfter op a b rs))))
+  many-told e = go (ended op limit a b rs e)
     where
-      go : Many → High → Wide → limit < pairCount op a b
-      go (isTrue x) y z = ltb-true _ _ x
-      go (isFalse x) (isTrue y) z = let w : TooManyPairs ≡ TooHighValue = rw (x, y) at e in absurd (let o : _≡_ {A = ℕ} 0 1 = cc in omega arith)
-      go (isFalse x) (isFalse y) (isTrue z) = let w : TooManyPairs ≡ NoRoom = rw (x, y, z) at e in absurd (let o : _≡_ {A = ℕ} 0 1 = cc in omega arith)
-      go (isFalse x) (isFalse y) (isFalse z) = let w : TooManyPairs ≡ Result = rw (x, y, z) at e in absurd (let o : _≡_ {A = ℕ} 0 1 = cc in omega arith)
+      go : Ended op limit a b rs TooManyPairs → limit < pairCount op a b
+      go (many q x) = x
+      go (high q x y) = absurd (let o : _≡_ {A = ℕ} 0 1 = cc in omega arith)
+      go (full q x y z) = absurd (let o : _≡_ {A = ℕ} 0 1 = cc in omega arith)
+      go (row q t) = absurd (let o : _≡_ {A = ℕ} 0 1 = cc in omega arith)
 
   high-told : TooHighValue ≡ joinAnswer op limit a b rs → (pairCount op a b ≤ limit) × (overflows (operate op) (pairs op a b) ≡ true)
-  unfolding joinAnswer
-  high-told e = go (flag (ltb limit (pairCount op a b))) (flag (overflows (operate op) (pairs op a b))) (flag (ltb spaceRows (length (rowsAfter op a b rs))))
+  high-told e = go (ended op limit a b rs e)
     where
-      go : Many → High → Wide → (pairCount op a b ≤ limit) × (overflows (operate op) (pairs op a b) ≡ true)
-      go (isTrue x) y z = let w : TooHighValue ≡ TooManyPairs = rw x at e in absurd (let o : _≡_ {A = ℕ} 0 1 = cc in omega arith)
-      go (isFalse x) (isTrue y) z = (ltb-false _ _ x, y)
-      go (isFalse x) (isFalse y) (isTrue z) = let w : TooHighValue ≡ NoRoom = rw (x, y, z) at e in absurd (let o : _≡_ {A = ℕ} 0 1 = cc in omega arith)
-      go (isFalse x) (isFalse y) (isFalse z) = let w : TooHighValue ≡ Result = rw (x, y, z) at e in absurd (let o : _≡_ {A = ℕ} 0 1 = cc in omega arith)
+      go : Ended op limit a b rs TooHighValue → (pairCount op a b ≤ limit) × (overflows (operate op) (pairs op a b) ≡ true)
+      go (many q x) = absurd (let o : _≡_ {A = ℕ} 0 1 = cc in omega arith)
+      go (high q x y) = (x, y)
+      go (full q x y z) = absurd (let o : _≡_ {A = ℕ} 0 1 = cc in omega arith)
+      go (row q t) = absurd (let o : _≡_ {A = ℕ} 0 1 = cc in omega arith)
 
   wide-told : NoRoom ≡ joinAnswer op limit a b rs → (pairCount op a b ≤ limit) × (overflows (operate op) (pairs op a b) ≡ false) × (spaceRows < length (rowsAfter op a b rs))
-  unfolding joinAnswer
-  wide-told e = go (flag (ltb limit (pairCount op a b))) (flag (overflows (operate op) (pairs op a b))) (flag (ltb spaceRows (length (rowsAfter op a b rs))))
+  wide-told e = go (ended op limit a b rs e)
     where
-      go : Many → High → Wide → (pairCount op a b ≤ limit) × (overflows (operate op) (pairs op a b) ≡ false) × (spaceRows < length (rowsAfter op a b rs))
-      go (isTrue x) y z = let w : NoRoom ≡ TooManyPairs = rw x at e in absurd (let o : _≡_ {A = ℕ} 0 1 = cc in omega arith)
-      go (isFalse x) (isTrue y) z = let w : NoRoom ≡ TooHighValue = rw (x, y) at e in absurd (let o : _≡_ {A = ℕ} 0 1 = cc in omega arith)
-      go (isFalse x) (isFalse y) (isTrue z) = (ltb-false _ _ x, y, ltb-true _ _ z)
-      go (isFalse x) (isFalse y) (isFalse z) = let w : NoRoom ≡ Result = rw (x, y, z) at e in absurd (let o : _≡_ {A = ℕ} 0 1 = cc in omega arith)
+      go : Ended op limit a b rs NoRoom → (pairCount op a b ≤ limit) × (overflows (operate op) (pairs op a b) ≡ false) × (spaceRows < length (rowsAfter op a b rs))
+      go (many q x) = absurd (let o : _≡_ {A = ℕ} 0 1 = cc in omega arith)
+      go (high q x y) = absurd (let o : _≡_ {A = ℕ} 0 1 = cc in omega arith)
+      go (full q x y z) = (x, y, z)
+      go (row q t) = absurd (let o : _≡_ {A = ℕ} 0 1 = cc in omega arith)
 
 -- the laws of `joinedAnswer`
 module _ (op : Operation) (ar : List ℕ) (a b : Diagram) (rs : List Diagram) where

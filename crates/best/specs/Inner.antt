@@ -16,13 +16,13 @@ use Rattle.elimination.specs.Answer.{isTooLarge}
 use Rattle.mdp.specs.Model.{Action, Model}
 use Rattle.mdp.specs.Backup.{variantsSum}
 
--- ===== What refuses it =====
+-- ===== What refuses (best) =====
 
 -- the calls of an action's regressed sum
 abbrev pub sumCalls : Model → Diagram → Action → Outcome Diagram
 sumCalls m d a = variantsSum (m .arities) (m .numerator) d (leaf 0) (a .variants)
 
--- they are all accepted
+-- these calls are all accepted
 pub record HasSum (m : Model) (d : Diagram) (a : Action) : Type 0 where
   pub sum : Diagram
   pub calls : sumCalls m d a ≡ ok sum
@@ -51,6 +51,6 @@ pub record Refuses {A : Type 0} (P : Refusal → Type 0) (o : Outcome A) : Type 
 abbrev pub OfCall : Refusal → Type 0
 OfCall r = (8 ≤ numberOf r) × (numberOf r ≤ 11)
 
--- one of these, or 15
+-- one of 8, 9, 10 and 11, or 15
 abbrev pub OfBest : Refusal → Type 0
 OfBest r = OfCall r ⊎ (r ≡ Valuations)

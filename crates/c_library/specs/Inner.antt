@@ -8,7 +8,7 @@ use Rattle.memory.specs.Saving.{numbersAt, linesAt, metAt}
 
 -- ===== Lines =====
 
--- the same as the code has it
+-- how far a text is read, in the code's own numbers
 abbrev pub positionAt : List ℕ → Position
 positionAt numbers = record { numbers = numbersAt numbers; lines = linesAt numbers; met = metAt numbers; end = 0 }
 

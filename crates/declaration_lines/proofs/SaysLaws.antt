@@ -26,7 +26,7 @@ use Rattle.events.specs.Contents.{keyIn, numberIn, wordAt, keysIn}
 use Rattle.answers.specs.declared.Answer.the-variants.{Refused as RefusedAs, Nothing}
 use Rattle.session.specs.declared.Part.{Part}
 use Rattle.session.specs.declared.Part.the-variants.{Model, Run}
-use Rattle.session.specs.Session.{Names, withNames, refuseIf}
+use Rattle.session.specs.Session.{Names, withNames, refuseIf, withActions}
 use Rattle.session.specs.Declaring.{constantLine, Vocabulary, predicateLine, withVocabulary, isTotal, totalLine, withTotal, isDiscount, discountLine, withDiscount, repeated, actionLine, withAction}
 use Rattle.session.specs.Replies.{done, wordsOf}
 use Rattle.declare.specs.declared.Counts.{Counts}
@@ -38,7 +38,6 @@ use Rattle.facts.specs.Words.{liveOf}
 use Rattle.facts.specs.WordLaws.{index-quiet}
 use Rattle.model.specs.declared.Head.{Head}
 use Rattle.model.specs.Layout.{modelOf}
-use Rattle.model_entry.specs.Inner.{withActions}
 use Rattle.model_entry.specs.Building.{Building, newAction}
 use Rattle.model_entry.specs.Adding.{ActionRoom, ActionAdded}
 use Rattle.model_entry.specs.StartLaws.{starts-same}

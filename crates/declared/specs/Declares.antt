@@ -1,10 +1,8 @@
--- Diagrams, models and sessions that name only what is declared (document 02, L2: a form is written in declared names).
+-- Sessions whose names are what the round trip asks (document 02, L2: a form is written in declared names).
 use Rattle.session.specs.Session.{Session}
 use Rattle.session.specs.Running.{tablesIn}
 use Rattle.round_trip.specs.RoundTrip.{Declared, Covers}
 use Rattle.round_trip.specs.KeyNames.{KeysOf}
-
--- ===== What the round trip asks =====
 
 -- the session's keys are those of the names that they stand for, each is a name, no two constants and no two predicates have one name, and they name everything in the value diagram
 pub record Named (σ : Session) : Type 0 where

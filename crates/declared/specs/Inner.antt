@@ -32,7 +32,7 @@ pub record DeclaredLabel (ar : List ℕ) (c p l : ℕ) : Type 0 where
 abbrev pub Declares : List ℕ → ℕ → ℕ → Diagram → Type 0
 Declares ar c p d = EveryLabel (DeclaredLabel ar c p) d
 
--- its weight and its truth diagrams
+-- so of a variant's weight and its truth diagrams
 pub record DeclaredVariant (ar : List ℕ) (c p : ℕ) (v : Variant) : Type 0 where
   pub weight : Declares ar c p (v .weight)
   pub truths : (q : ℕ) (d : Diagram) → v .truths q ≡ some d → Declares ar c p d

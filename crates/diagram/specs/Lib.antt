@@ -46,7 +46,7 @@
 --   old-none: words with a row of the packing before document 02's L8 are no listing (OldListings)
 --   valid-is-listing: words that are valid row by row (Validity, for proofs) are a listing; listing-is-valid is the converse
 --
--- RowLists, Shown and WrittenRows are for proofs: rows that grow at the end, and words that hold them.
+-- Inner, Shown and WrittenRows are for proofs: rows that grow at the end, and words that hold them.
 
 pub mod Sizes
 pub mod Diagram

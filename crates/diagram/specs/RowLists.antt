@@ -1,4 +1,4 @@
--- Lists of rows that grow at the end, as those of a listing and of a working space do, and words that hold them.
+-- Rows of a list by number.
 use mathlib.Core.List.{List}
 use Prim.Native.Nat.{ℕ}
 use lib.ListN.{getD}

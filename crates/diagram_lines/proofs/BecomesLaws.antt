@@ -27,7 +27,7 @@ use Rattle.drawing.specs.declared.Built.{Built}
 use Rattle.drawing.specs.declared.Built.the-variants.{Done, Refused}
 use Rattle.build.specs.Machine.{built}
 use Rattle.answers.specs.declared.Answer.the-variants as A
-use Rattle.session.specs.Session.{Names, Session}
+use Rattle.session.specs.Session.{Names, Session, withActions}
 use Rattle.session.specs.ModelLines.{mostModelRows, rowsWith, namesFor, isSome, truthsNow, lastVariant, withTruthAt, truthRead, withTruth, becomesLine}
 use Rattle.session.specs.Replies.{done, quietly, wordsOf}
 use Rattle.declare.specs.Tables.{namesOf, GoodVocabulary}
@@ -36,7 +36,6 @@ use Rattle.steps.specs.GivenLaws.{then-then, then-same}
 use Rattle.planner.specs.Run.{heldIn}
 use Rattle.model.specs.declared.Head.{Head as ModelHead}
 use Rattle.model.specs.Layout.{modelOf}
-use Rattle.model_entry.specs.Inner.{withActions}
 use Rattle.model_entry.specs.Adding.{RowsRoom, TruthRoom, TruthAdded}
 use Rattle.memory.specs.declared.Numbers.{Numbers}
 use Rattle.memory.specs.Inner.{Ready}

@@ -28,7 +28,7 @@ use Rattle.drawing.specs.declared.Built.{Built}
 use Rattle.drawing.specs.declared.Built.the-variants.{Done, Refused}
 use Rattle.build.specs.Machine.{builtClosed}
 use Rattle.answers.specs.declared.Answer.the-variants as A
-use Rattle.session.specs.Session.{Names}
+use Rattle.session.specs.Session.{Names, rewarded}
 use Rattle.session.specs.ModelLines.{mostModelRows, namesFor, rewardRead, withReward, rewardLine}
 use Rattle.session.specs.Replies.{done, quietly, wordsOf}
 use Rattle.declare.specs.Tables.{namesOf}
@@ -37,7 +37,6 @@ use Rattle.steps.specs.GivenLaws.{then-then}
 use Rattle.planner.specs.Run.{heldIn}
 use Rattle.model.specs.declared.Head.{Head}
 use Rattle.model.specs.Layout.{modelOf}
-use Rattle.model_entry.specs.Inner.{rewarded}
 use Rattle.model_entry.specs.Adding.{RowsRoom, RewardAdded}
 use Rattle.memory.specs.declared.Numbers.{Numbers}
 use Rattle.memory.specs.Inner.{Ready}

@@ -37,7 +37,7 @@ use Rattle.drawing.specs.declared.Built.{Built}
 use Rattle.drawing.specs.declared.Built.the-variants.{Done, Refused}
 use Rattle.build.specs.Machine.{built}
 use Rattle.answers.specs.declared.Answer.the-variants as A
-use Rattle.session.specs.Session.{Names}
+use Rattle.session.specs.Session.{Names, withActions}
 use Rattle.session.specs.Good.{mostVariantNames}
 use Rattle.session.specs.ModelLines.{mostModelRows, namesFor, addVariant, weightRead, withVariant, variantLine}
 use Rattle.session.specs.Replies.{done, quietly, wordsOf}
@@ -49,7 +49,6 @@ use Rattle.steps.specs.GivenLaws.{then-then}
 use Rattle.planner.specs.Run.{heldIn}
 use Rattle.model.specs.declared.Head.{Head}
 use Rattle.model.specs.Layout.{modelOf}
-use Rattle.model_entry.specs.Inner.{withActions}
 use Rattle.model_entry.specs.Building.{newVariant}
 use Rattle.model_entry.specs.Adding.{RowsRoom, VariantRoom, VariantAdded}
 use Rattle.memory.specs.declared.Numbers.{Numbers}

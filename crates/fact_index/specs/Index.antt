@@ -1,7 +1,5 @@
--- A hash index over lent facts: what a search for a fact keeps.
+-- How many buckets the index of facts has.
 use Prim.Native.Nat.{ℕ}
-
--- ===== The bucket of a fact =====
 
 -- the index has this many buckets
 abbrev pub buckets : ℕ

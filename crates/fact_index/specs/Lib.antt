@@ -1,4 +1,4 @@
--- An index of facts: how a fact is found among lent rows. Nobody must believe these; which facts there are is said in crate state.
+-- An index of facts: how a fact is found among lent rows. Of these only how many buckets there are has to be believed (Index); which facts there are is said in crate state.
 pub mod Index
 pub mod Inner
 -- laws

@@ -18,7 +18,7 @@ isLabelUnder ar l = areArities ar && isLabel ar l
 abbrev pub isFirstWord : List ℕ → ℕ → Bool
 isFirstWord ar w = eqb w leafMark || isLabel ar w
 
--- first words in that order, a leaf after every label
+-- first words in the order of labels, a leaf after every label
 abbrev pub wordBefore : List ℕ → ℕ → ℕ → Bool
 wordBefore ar w v = cond (eqb w leafMark) false (cond (eqb v leafMark) true (labelBefore ar w v))
 

@@ -54,7 +54,7 @@
 --   numbering-increasing: closing up and moving apart keep the order of terms
 --   freeing-increasing: so does freeing
 --
--- Callers has inner contracts.
+-- Callers and Inner have inner contracts.
 
 pub mod Limits
 pub mod Terms

@@ -1,4 +1,4 @@
--- What the functions of the check ensure (document 01, section 'Terms, labels, listings').
+-- A flag that tells whether something is so.
 use mathlib.Core.Path.{_≡_}
 use mathlib.Core.Bool.{Bool, true, false}
 

@@ -33,14 +33,14 @@ cutOutcome ar d = leaves ar d (diagramAnswer ar d)
 abbrev pub heldWith : ℕ → Outcome Diagram → Outcome Held
 heldWith k o = andThen o (λ d. ok (record { diagram = d; steps = k }))
 
--- an accepted backup adds 1 to k, an accepted cut or reduction leaves it
+-- an accepted backup adds 1 to k, an accepted cut or reduction leaves it (document 02, L13; a reduction may be refused with 17, 26, 27, 28)
 unfoldable pub call : Model → Call → Held → Outcome Held
 unfolding backup cutOutcome reduceAnswer
 call m aBackup h = heldWith (suc (h .steps)) (backup m (h .steps) (h .diagram))
 call m aCut h = heldWith (h .steps) (cutOutcome (m .arities) (h .diagram))
 call m aReduce h = heldWith (h .steps) (reduceAnswer (m .arities) (h .diagram))
 
--- an accepted call replaces the value diagram and k; a refused one leaves both
+-- an accepted call leaves the value diagram and k that it gives; a refused one leaves both as they were
 abbrev pub taken : Held → Outcome Held → Held
 taken h (ok g) = g
 taken h (refused r) = h

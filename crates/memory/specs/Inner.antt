@@ -46,7 +46,7 @@ pub record Answers (k : Kind) (s : List ℕ) (number : ℕ) (n : Numbers) (w : M
   pub indexed : FactIndex (w′ .arities) (w′ .state) (r .numbers .live)
   pub carried : Carried n w (r .numbers) w′
 
--- the same with the index of its facts, from line to line
+-- numbers and words that are a session's (Memory `IsSession`), with the index of its facts, from line to line
 pub record Kept (n : Numbers) (w : Memory) : Type 0 where
   pub stored : Stored n w
   pub good : GoodSession (sessionOf n w)

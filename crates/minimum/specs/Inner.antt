@@ -19,7 +19,7 @@ Met {X} {Y} P Q f P′ Q′ g = (a : X) → P a → (a′ : Y) × P′ a′ × (
 abbrev pub Lowest : State → List ℕ → Tree Atomic → (ℕ → ℕ) → ℕ → Type 0
 Lowest s os d θ x = IsMin (Under s os θ) (value s d) x
 
--- the same as the request has it: the highest of the lowest leaves that valuations have
+-- the number as document 02, L12 has it: the highest of the lowest leaves that valuations have
 abbrev pub HighestLowest : State → List ℕ → Tree Atomic → ℕ → Type 0
 HighestLowest s os d x = IsMax {X = (ℕ → ℕ) × ℕ} (λ p. Fits s os (p .0) × Lowest s os d (p .0) (p .1)) (λ p. p .1) x
 

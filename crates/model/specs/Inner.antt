@@ -11,7 +11,7 @@ use Rattle.mdp.specs.Model.{GoodModel, mostActions, mostVariants}
 use Rattle.model.specs.declared.Head.{Head}
 use Rattle.model.specs.Layout.{tableWords, variantPlace, weightWords, spansAt, variantsOf, rewardWords, modelOf}
 
--- ===== What code on such words needs of them =====
+-- ===== What code on a model in words needs of the words =====
 
 -- the variant at the place i: its weight and truth diagrams are listings, within the words
 pub record LaidVariant (ar listings table : List ℕ) (i : ℕ) : Type 0 where

@@ -9,9 +9,10 @@ use Rattle.names.specs.Many.{many}
 use Rattle.names.specs.ManyLaws.{many-ext}
 use Rattle.diagram.specs.Listing.{diagramOf}
 use Rattle.state.specs.ValueLaws.{by-low}
+use Rattle.session.specs.Session.{withActions, rewarded}
 use Rattle.model.specs.declared.Head.{Head}
 use Rattle.model.specs.Layout.{part, listingWords, actionWords, variantPlace, variantAt, variantsOf, actionAt, rewardWords, modelOf}
-use Rattle.model_entry.specs.Inner.{modelWith, withActions, rewarded, KeepsStarts}
+use Rattle.model_entry.specs.Inner.{modelWith, KeepsStarts}
 use Rattle.model_entry.specs.Building.{SpannedAction, Spanned, Canonical, ListedVariant, Listed, Building, newAction}
 use Rattle.model_entry.specs.Adding.{moreActions, rewardHead}
 use Rattle.model_entry.specs.Adding.{ActionRoom, ActionAdded, RowsRoom, RewardAdded}

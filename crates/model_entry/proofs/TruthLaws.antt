@@ -20,10 +20,11 @@ use Rattle.state.specs.ValueLaws.{by-low}
 use Rattle.regression.specs.Regression.{Truths}
 use Rattle.regression.specs.RegressCall.{truthsOf}
 use Rattle.mdp.specs.Model.{Variant, Action, mostVariants}
+use Rattle.session.specs.Session.{withActions}
 use Rattle.model.specs.declared.Head.{Head}
 use Rattle.model.specs.Layout.{part, variantWords, actionWords, variantPlace, weightWords, spansAt, variantAt, variantsOf, actionAt, modelOf}
 use Rattle.session.specs.ModelLines.{lastVariant, lastTruths, withTruthAt, truthsNow, truthsOfLast, isSome}
-use Rattle.model_entry.specs.Inner.{modelWith, withActions, HasListing, KeepsStarts}
+use Rattle.model_entry.specs.Inner.{modelWith, HasListing, KeepsStarts}
 use Rattle.model_entry.specs.Building.{Inside, truthPlace, SpannedVariant, SpannedAction, Canonical, ListedVariant, Listed}
 use Rattle.model_entry.specs.Starts.{Slot, reward, weight, truth, startsIn}
 use Rattle.model_entry.specs.Adding.{RowsRoom, TruthRoom}

@@ -10,10 +10,11 @@ use Rattle.names.specs.ManyLaws.{many-ext}
 use Rattle.diagram.specs.Listing.{diagramOf}
 use Rattle.state.specs.ValueLaws.{by-low}
 use Rattle.mdp.specs.Model.{Variant, Action, mostVariants}
+use Rattle.session.specs.Session.{withActions}
 use Rattle.model.specs.declared.Head.{Head}
 use Rattle.model.specs.Layout.{part, spanWords, variantWords, actionWords, variantPlace, variantAt, variantsOf, actionAt, modelOf}
 use Rattle.session.specs.ModelLines.{addVariant}
-use Rattle.model_entry.specs.Inner.{modelWith, withActions}
+use Rattle.model_entry.specs.Inner.{modelWith}
 use Rattle.model_entry.specs.Building.{truthPlace, SpannedVariant, SpannedAction, Canonical, ListedVariant, Listed, newVariant}
 use Rattle.model_entry.specs.Adding.{RowsRoom, VariantRoom}
 use Rattle.model_entry.specs.Adding.{VariantAdded, Cleared, newPlace, Opened, moreWords}

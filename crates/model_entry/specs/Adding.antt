@@ -7,10 +7,11 @@ use lib.ListN.{length, getD, take}
 use Rattle.label.specs.Limits.{predicateCount}
 use Rattle.diagram.specs.Listing.{diagramOf}
 use Rattle.mdp.specs.Model.{mostActions, mostVariants}
+use Rattle.session.specs.Session.{rewarded, withActions}
 use Rattle.model.specs.declared.Head.{Head}
 use Rattle.model.specs.Layout.{listingWords, actionWords, variantWords, variantPlace, variantsOf, modelOf}
 use Rattle.session.specs.ModelLines.{addVariant, lastVariant, withTruthAt, truthsNow, isSome}
-use Rattle.model_entry.specs.Inner.{rewarded, withActions, KeepsStarts}
+use Rattle.model_entry.specs.Inner.{KeepsStarts}
 use Rattle.model_entry.specs.Building.{newAction, newVariant, truthPlace, Spanned, Canonical, Building}
 
 -- ===== The head afterwards =====

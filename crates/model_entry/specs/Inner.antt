@@ -22,28 +22,6 @@ modelWith ar h d l = record {
   actions = l;
 }
 
--- the model with another reward
-abbrev pub rewarded : Model → Diagram → Model
-rewarded m d = record {
-  arities = m .arities;
-  total = m .total;
-  numerator = m .numerator;
-  denominator = m .denominator;
-  reward = d;
-  actions = m .actions;
-}
-
--- the model with other actions
-abbrev pub withActions : Model → List Action → Model
-withActions m l = record {
-  arities = m .arities;
-  total = m .total;
-  numerator = m .numerator;
-  denominator = m .denominator;
-  reward = m .reward;
-  actions = l;
-}
-
 -- ===== Words in use: the listings' first words, as many as the head says =====
 
 -- the first a actions in the table have few variants each
@@ -54,14 +32,14 @@ pub record FewVariants (table : List ℕ) (a : ℕ) : Type 0 where
 
 -- ===== In words: what the functions of lines promise =====
 
--- the words have one
+-- the words have a listing for the slot
 abbrev pub HasListing : List ℕ → Head → Slot → Type 0
 HasListing table h reward = h .«reward_words» ≡ 0 → ⊥
 HasListing table h (weight a v) = (a < h .actions) × (v < variantsOf table a)
 HasListing table h (truth a v p) =
     (0 < p) × (p < predicateCount) × (a < h .actions) × (v < variantsOf table a) × (getD table (truthPlace (variantPlace a v) p + 1) 0 ≡ 0 → ⊥)
 
--- a new one begins behind the words in use, the others stay; without a reward its number stays too
+-- a new listing begins behind the words in use, the others stay; without a reward its number stays too
 pub record KeepsStarts (table : List ℕ) (h : Head) (table′ : List ℕ) (h′ : Head) : Type 0 where
   pub stays : (s : Slot) → HasListing table h s → startsIn table′ h′ s ≡ startsIn table h s
   pub new : (s : Slot) → HasListing table′ h′ s → (HasListing table h s → ⊥) → startsIn table′ h′ s ≡ h .words

@@ -53,7 +53,7 @@ pub record Rows (ws : List ℕ) (n : ℕ) : Type 0 where
   pub shown : Shown ws n (tree ws)
   pub labels : (i : ℕ) → i < n → (labelAt ws i ≡ leafMark → ⊥) → labelAt ws i < labelEnd
 
--- how many paths each of the first m rows has, as far as 256
+-- how many paths each of the first m rows has; over 256 it says 257
 pub record Counted (ws counts : List ℕ) (m : ℕ) : Type 0 where
   pub room : m ≤ length counts
   pub each : (i : ℕ) → i < m → getD counts i 0 ≡ min (suc mostPaths) (length (paths (tree ws i)))

@@ -15,7 +15,7 @@
 --   paths-are: the paths are those of the numbers 0, 1, ..
 --   rows-paths: a diagram has fewer rows than twice its paths
 --
--- The rest of Routes, and Walking, have inner contracts.
+-- Inner and Walking have inner contracts.
 
 pub mod Paths
 pub mod Routes

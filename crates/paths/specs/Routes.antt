@@ -1,4 +1,4 @@
--- Paths by number, as the code walks them: by the counts of paths of each row.
+-- Paths by number, as the code walks them.
 use mathlib.Core.Bool.{Bool, true, false, cond}
 use mathlib.Core.List.{[]}
 use Prim.Native.Nat.{ℕ, _-_}

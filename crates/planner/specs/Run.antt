@@ -1,4 +1,4 @@
--- Runs of backups, cuts and reductions on a model in lent words (document 01, section 'Backup': "the value diagram starts as the reward read, k as 0").
+-- The value diagram and k that words hold (document 01, section 'Backup').
 use mathlib.Core.List.{List}
 use Prim.Native.Nat.{ℕ, _*_}
 use lib.ListN.{take}

@@ -18,7 +18,7 @@ use Rattle.words.specs.declared.Key.{Key}
 use Rattle.events.specs.declared.Event.{Event}
 use Rattle.reading.specs.declared.Binding.{Binding}
 use Rattle.reading.specs.declared.Binding.the-variants.{Any, None, Only}
-use Rattle.reading.specs.Reading.{Environment, met, Met, Written, isWithin, written}
+use Rattle.reading.specs.Reading.{Environment, Met, Written, isWithin, written}
 use Rattle.reading.specs.Tree.{Reading, Result, resolveDiagram, opsOf, number, branch}
 use Rattle.reading.specs.Occurrences.{variableKeys, minimumKeys}
 

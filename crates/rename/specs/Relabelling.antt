@@ -1,4 +1,4 @@
--- Diagrams whose labels are changed in order, and their listings (document 01, sections 'Terms, labels, listings' and 'Combination').
+-- What is so of every term of a diagram.
 use mathlib.Core.List.{List}
 use Prim.Native.Nat.{ℕ}
 use Rattle.label.specs.Renamings.{EachIn}

@@ -5,7 +5,7 @@
 --   Singles, Live == which single forms were accepted; the state as it is lent: objects, constants placed, facts; count and total of (did ..) lines
 --   Session, opening == part, names, single forms, model, model rows, state, value diagram and k; before the first line
 --   defaultTotal, defaultNumerator, defaultDenominator == W is 100 and the discount 19 20 where no line gives them (document 02, L7)
---   withActions, withModel, withNames, withRows, withLive, withHeld == a model with other actions; a session with one part new
+--   rewarded, withActions, withModel, withNames, withRows, withLive, withHeld == a model with another reward, with other actions; a session with something new
 --   refuseIf == refused if true, else what follows
 --
 -- Definitions: where a line may stand

@@ -26,7 +26,7 @@ use Rattle.reading.specs.Head.{headNumber, headArguments}
 use Rattle.build.specs.Machine.{built, builtClosed}
 use Rattle.mdp.specs.Model.{Variant, Action, mostVariants}
 use Rattle.mdp.specs.Backup.{combined}
-use Rattle.session.specs.Session.{Names, Session, withActions, withModel, withNames, withRows, refuseIf}
+use Rattle.session.specs.Session.{Names, Session, rewarded, withActions, withModel, withNames, withRows, refuseIf}
 
 -- all model listings together have 2,048 rows
 abbrev pub mostModelRows : ℕ
@@ -51,14 +51,7 @@ rowsWith r d = r + length (rows d)
 
 unfoldable pub withReward : Session → Diagram → Session
 withReward σ d =
-    withRows (withModel σ (record { total = σ .singles .total; discount = σ .singles .discount; reward = true }) (record {
-      arities = σ .model .arities;
-      total = σ .model .total;
-      numerator = σ .model .numerator;
-      denominator = σ .model .denominator;
-      reward = d;
-      actions = σ .model .actions;
-    })) (rowsWith (σ .rows) d)
+    withRows (withModel σ (record { total = σ .singles .total; discount = σ .singles .discount; reward = true }) (rewarded (σ .model) d)) (rowsWith (σ .rows) d)
 
 -- its words, 8, then 10, 11, 9 at each row step, 9 for its result, closed up; last 9 for model rows, of which there are r so far
 unfoldable pub rewardRead : Names → List ℕ → ℕ → List Event → Outcome Diagram

@@ -102,7 +102,7 @@ quietly σ number f o = answered σ number (λ a. silent (f a)) o
 abbrev pub valueSays : Session → ℕ → Outcome ℕ → Reply
 valueSays σ number o = answered σ number (λ v. record { session = σ; answer = A.Value v (σ .held .steps) (scale (σ .model) ^ σ .held .steps) }) o
 
--- a call of the run: an accepted one replaces the value diagram and k
+-- a call of the run: an accepted one leaves the value diagram and k that it gives
 abbrev pub callSays : Session → ℕ → (Held → Answer) → Outcome Held → Reply
 callSays σ number says o = answered σ number (λ h. record { session = withHeld σ (σ .part) h; answer = says h }) o
 

@@ -1,4 +1,5 @@
--- (start) and the lines of the run: what their operations answer (document 01, sections 'Text', 'Backup' and 'Cut'; document 02, L2, L9, L11 and L13).
+-- (start) and the lines of the run: what they answer, and how (start) begins the run (document 01, sections 'Text', 'Backup' and 'A run, whole'; document 02, L2, L9,
+-- L11 and L13).
 use mathlib.Core.Bool.{not, _&&_}
 use mathlib.Core.List.{List, []}
 use Prim.Native.Nat.{ℕ}
@@ -58,7 +59,7 @@ valueRead ar l d =
 abbrev pub backupIs : Held → Answer
 backupIs h = A.Backup (h .steps) (length (rows (h .diagram)))
 
--- row, edge, rows left. An accepted cut has an answer
+-- row, edge, rows left; a refused cut is answered by its refusal and never comes here
 abbrev pub cutIs : Cut → Answer
 cutIs (C.Done k e n) = A.Cut k e n
 cutIs (C.Refused r) = A.Nothing

@@ -6,7 +6,7 @@ use lib.ListN.{replicate}
 use Rattle.refusal.specs.declared.Refusal.{Refusal}
 use Rattle.words.specs.declared.Key.{Key}
 use Rattle.label.specs.Limits.{constantCount, predicateCount, equalityArity}
-use Rattle.diagram.specs.Diagram.{leaf}
+use Rattle.diagram.specs.Diagram.{Diagram, leaf}
 use Rattle.refusal.specs.Outcome.{Outcome, refused}
 use Rattle.mdp.specs.Model.{Action, Model}
 use Rattle.mdp.specs.Runs.{Held}
@@ -72,7 +72,18 @@ opening = record {
   held = record { diagram = leaf 0; steps = 0 };
 }
 
--- ===== A session with one part new =====
+-- ===== A session with something new =====
+
+-- the model with another reward
+abbrev pub rewarded : Model → Diagram → Model
+rewarded m d = record {
+  arities = m .arities;
+  total = m .total;
+  numerator = m .numerator;
+  denominator = m .denominator;
+  reward = d;
+  actions = m .actions;
+}
 
 -- the model with other actions
 abbrev pub withActions : Model → List Action → Model

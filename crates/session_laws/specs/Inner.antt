@@ -7,7 +7,6 @@ use lib.ListN.{length, getD}
 use Rattle.diagram.specs.Rows.{rows}
 use Rattle.diagram.specs.Sizes.{mostRows}
 use Rattle.refusal.specs.Outcome.{ok}
-use Rattle.mdp.specs.Runs.{run}
 use Rattle.state.specs.Max.{Tuple}
 use Rattle.best.specs.Moves.{Move, actionAt}
 use Rattle.text.specs.declared.Kind.{Kind}
@@ -103,7 +102,7 @@ movesState K.Count = false
 movesState K.Did = true
 movesState K.Bad = false
 
--- none of the lines does
+-- none of the lines changes the state in hand
 abbrev pub NoStateLine : List (List ℕ) → Type 0
 NoStateLine [] = Unit {0}
 NoStateLine (s ∷ ls) = (movesState (lineKind s) ≡ false) × NoStateLine ls

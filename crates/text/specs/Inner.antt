@@ -3,7 +3,7 @@ use mathlib.Core.List.{List, [], _∷_}
 use Rattle.text.specs.declared.Kind.{Kind}
 use Rattle.text.specs.declared.Kind.the-variants as K
 
--- all of them but Bad
+-- all kinds of lines but Bad
 abbrev pub kinds : List Kind
 kinds =
     K.Constant ∷ K.Predicate ∷ K.Total ∷ K.Discount ∷ K.Reward ∷ K.Action ∷ K.Variant ∷ K.Becomes ∷

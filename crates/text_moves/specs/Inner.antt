@@ -11,7 +11,7 @@ use Rattle.session.specs.Replies.{isPlaced, refusal, reply}
 use Rattle.session_laws.specs.LineAnswers.{valueLine}
 use Rattle.text_moves.specs.Claims.{inHand}
 
--- ===== What refuses it =====
+-- ===== What refuses (best) =====
 
 -- r is what refuses (best) in the session σ: 5 in the model part; 20 where (value) is answered 5; then as the first action that does not pass stops
 pub data RefusesBest (σ : Session) : Refusal → Type 0 where

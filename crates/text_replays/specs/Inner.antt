@@ -16,12 +16,12 @@ use Rattle.session.specs.Replaying.{variantNames}
 use Rattle.session.specs.Replies.{Reply}
 use Rattle.diagram.specs.Diagram.{Diagram}
 use Rattle.mdp.specs.Model.{Action, Every}
-use Rattle.text_replays.specs.Claims.{reached, repliesAfter, AcceptedAs, Undisturbed, ActionLines, noLines, DeclarationsOf, none, action}
-use Rattle.text_replays.specs.Drawings.{ActionDrawn, linesOf, drawnFor, variantFrom, action}
+use Rattle.text_replays.specs.Claims.{reached, repliesAfter, AcceptedAs, Undisturbed, ActionLines, noLines, DeclarationsOf}
+use Rattle.text_replays.specs.Drawings.{ActionDrawn, linesOf, drawnFor, variantFrom}
 
 -- ===== What a list of lines comes to =====
 
--- none of them is an accepted (objects n)
+-- none of the lines is an accepted (objects n)
 abbrev pub NoObjects : List (List ℕ) → List Reply → Type 0
 NoObjects [] ys = Unit {0}
 NoObjects (s ∷ ls) [] = ⊥
@@ -39,7 +39,7 @@ pub record Begins (ls : List (List ℕ)) : Type 0 where
 abbrev pub didPrints : Session → State → List Did → List ℕ
 didPrints σ s ds = didHead ++ field (length ds) ++ field (rewardsAlong (σ .model) s ds) ++ lineEnd
 
--- ===== When it is accepted, and what it does =====
+-- ===== When a (did ..) line is accepted =====
 
 -- no fact of a predicate that is not declared is true in the state: 22 counts facts of declared predicates alone
 abbrev pub NoneUndeclared : Session → State → Type 0
@@ -47,7 +47,7 @@ NoneUndeclared σ s = (p : ℕ) (os : List ℕ) → length (σ .names .predicate
 
 -- ===== The names declared =====
 
--- the session behind the lines has these: its actions are the accepted (action ..) lines, each with as many parameters and the same variants
+-- the session behind the lines has what xs says: its actions are the accepted (action ..) lines, each with as many parameters and the same variants
 pub record DeclaredBy (ls : List (List ℕ)) (xs : List ActionLines) : Type 0 where
   pub actions : reached ls .names .actions ≡ map (λ x. keyOf (x .action .0)) xs
   pub parameters : (a : ℕ) → getD (reached ls .model .actions) a noAction .count ≡ length (getD xs a noLines .action .1)
@@ -57,9 +57,9 @@ pub record DeclaredBy (ls : List (List ℕ)) (xs : List ActionLines) : Type 0 wh
 abbrev pub NoPlace : List ℕ → List (List ℕ) → Type 0
 NoPlace n names = (i : ℕ) → i < length names → getD names i [] ≡ n → ⊥
 
--- ===== The model that they give =====
+-- ===== The model that lines give =====
 
--- no two are drawn for one predicate
+-- no two truth diagrams are for one predicate
 abbrev pub OneEach : List (ℕ × Diagram) → Type 0
 OneEach [] = Unit {0}
 OneEach (t ∷ ts) = (drawnFor ts (t .0) ≡ none) × OneEach ts
@@ -70,7 +70,7 @@ DrawnOnce xs = Every (λ x. Every (λ v. OneEach (v .truths)) (x .variants)) xs
 abbrev pub actionFrom : ActionDrawn → Action
 actionFrom x = record { count = length (x .action .1); variants = map variantFrom (x .variants) }
 
--- the session behind the lines has these: action a and its variant v are the lines at these places, with the diagrams that they drew, under the names that they declare
+-- the session behind the lines has what the lines draw: action a and its variant v are the lines at these places, with the diagrams that they drew, under the names that they declare
 pub record DrawnBy (ls : List (List ℕ)) (xs : List ActionDrawn) : Type 0 where
   pub names : DeclarationsOf ls (map linesOf xs)
   pub actions : reached ls .model .actions ≡ map actionFrom xs

@@ -16,8 +16,7 @@ use Rattle.answers.specs.declared.Put.{Put}
 use Rattle.answers.specs.declared.Put.the-variants.{At, Full}
 use Rattle.session.specs.declared.Part.the-variants.{Model}
 use Rattle.model_entry.specs.Starts.{Slot, hasStart}
-use Rattle.texts.specs.declared.Ran.the-variants.{Full}
-use Rattle.texts.specs.Running.{Filled, fits, stopped, fillRest, behind}
+use Rattle.texts.specs.Running.{Filled, fits, stopped, fillRest}
 use Rattle.texts.specs.declared.Sent.{Sent}
 use Rattle.texts.specs.declared.Position.{Position}
 use Rattle.texts.specs.Sending.{mostLines}

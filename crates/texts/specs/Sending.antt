@@ -1,4 +1,4 @@
--- A line answered in a buffer: the session in lent words moves on, and the answer's bytes stand behind what was written.
+-- How many lines a text may have: as many as a word counts.
 use Prim.Native.Nat.{ℕ}
 
 -- the lines that a number counts
