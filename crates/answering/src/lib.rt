@@ -20,7 +20,7 @@ use words::Key;
 const LINE_BYTES: usize = 90;
 
 // What an answer prints: so many rows of the value's listing, the value as a form of so many bytes, so many lines of a spread, or one line of its own, if any.
-#[derive(Drop)]
+#[derive(Clone, Copy)]
 pub enum Printed {
     Rows(usize),
     Form(usize),
@@ -29,7 +29,7 @@ pub enum Printed {
 }
 
 // What is printed line by line: the rows of a listing, or the values of a spread and their numbers of states.
-#[derive(Drop)]
+#[derive(Clone, Copy)]
 enum Table {
     Rows,
     Counts,

@@ -4,7 +4,7 @@ use Rattle.std.proofs.Common.{ap, ◌∙◌, arith, le-leb, leb-false, ne_eqb, l
 use Rattle.std.proofs.Math.Decide.{dec_lt}
 use Rattle.std.proofs.lemmas.Bool.{lt-leb}
 use Rattle.std.proofs.Math.ListN.{get_or-append}
-use Rattle.words.specs.Bytes.{run, is_digit_lem, decimal_from, decimal, over, value_of}
+use Rattle.words.specs.Bytes.{run, is_digit, decimal_from, decimal, over, value_of}
 use Rattle.words.specs.Words.{IsNumber}
 use Rattle.words.specs.WordLaws.{value-exact}
 use Rattle.answers.specs.Digits.{digits_within, digits}
@@ -69,24 +69,24 @@ digits-read v =
 pub digits_value : (v : ℕ) → v < over → value_of (digits v) ≡ v
 digits_value v h = value-exact (digits v) (omega (arith, digits-read v)) ∙ digits-read v
 
-is_digit_lem : (d : ℕ) → d ≤ 9 → is_digit_lem (d + 48) ≡ true
-unfolding is_digit_lem
+is_digit_lem : (d : ℕ) → d ≤ 9 → is_digit (d + 48) ≡ true
+unfolding is_digit
 is_digit_lem d h = rw (le-leb 48 (d + 48) (omega arith), le-leb (d + 48) 57 (omega arith))
 
-run-last : (s : List ℕ) (b : ℕ) → run is_digit_lem s ≡ length s → is_digit_lem b ≡ true → run is_digit_lem (s ++ (b ∷ [])) ≡ length (s ++ (b ∷ []))
+run-last : (s : List ℕ) (b : ℕ) → run is_digit s ≡ length s → is_digit b ≡ true → run is_digit (s ++ (b ∷ [])) ≡ length (s ++ (b ∷ []))
 unfolding run
 run-last [] b e h = rw h
-run-last (a ∷ s) b e h = go (is_digit_lem a) (λ (g : run is_digit_lem s ≡ length s). run-last s b g h) e
+run-last (a ∷ s) b e h = go (is_digit a) (λ (g : run is_digit s ≡ length s). run-last s b g h) e
   where
-    go : (t : Bool) → (run is_digit_lem s ≡ length s → run is_digit_lem (s ++ (b ∷ [])) ≡ length (s ++ (b ∷ []))) → cond t (suc (run is_digit_lem s)) 0 ≡ suc (length s)
-        → cond t (suc (run is_digit_lem (s ++ (b ∷ [])))) 0 ≡ suc (length (s ++ (b ∷ [])))
+    go : (t : Bool) → (run is_digit s ≡ length s → run is_digit (s ++ (b ∷ [])) ≡ length (s ++ (b ∷ []))) → cond t (suc (run is_digit s)) 0 ≡ suc (length s)
+        → cond t (suc (run is_digit (s ++ (b ∷ [])))) 0 ≡ suc (length (s ++ (b ∷ [])))
     go true ih e = ap suc (ih (omega arith))
     go false ih e = absurd (omega arith)
 
-run-digits : (v : ℕ) → run is_digit_lem (digits v) ≡ length (digits v)
+run-digits : (v : ℕ) → run is_digit (digits v) ≡ length (digits v)
 unfolding run
 run-digits v =
-    by_digits (λ v s. run is_digit_lem s ≡ length s) (λ v h. run-last [] (v + 48) refl (is_digit_lem v h))
+    by_digits (λ v s. run is_digit s ≡ length s) (λ v h. run-last [] (v + 48) refl (is_digit_lem v h))
     (λ v h e. run-last (digits (v / 10)) (v % 10 + 48) e (is_digit_lem (v % 10) (omega arith)))
     v
 

@@ -9,7 +9,7 @@ pub const MOST_BYTES: usize = 92160;
 // What a line of a text is answered: value, k and S^k; k and rows; the cut row, its edge and the rows left; the rows a reduction leaves; the refusal and
 // the line's number; the rows of the value's listing to be shown; the bytes of the value's form; the action of the best move, how many objects it has, and
 // these; the objects of the states that were counted, and the lines of their spread; how many moves were done, and the total of their rewards; or nothing.
-#[derive(Drop)]
+#[derive(Clone, Copy)]
 pub enum Answer {
     Value(u64, u64, u64),
     Backup(u64, usize),
@@ -25,7 +25,7 @@ pub enum Answer {
 }
 
 // The place behind what was put, or that there is no room for it.
-#[derive(Drop)]
+#[derive(Clone, Copy)]
 pub enum Put {
     At(usize),
     Full,

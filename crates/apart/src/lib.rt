@@ -207,7 +207,7 @@ fn combine_moved(
 }
 
 // Where the second operand's variables and minimum variables begin, unless a kind has more than 64 of both operands.
-#[derive(Drop)]
+#[derive(Clone, Copy)]
 pub enum Aside {
     From(u64, u64),
     TooMany,

@@ -1,7 +1,7 @@
 // Combination of two diagrams: sum, product and max, with names apart or shared. What it is stands in specs/.
 use refusal::Refusal;
 
-#[derive(Drop)]
+#[derive(Clone, Copy)]
 pub enum Operation {
     Sum,
     Product,
@@ -9,14 +9,14 @@ pub enum Operation {
 }
 
 // Whether the operands' variables are kept apart. A max asked for with shared names is done apart where an operand has a minimum variable.
-#[derive(Drop)]
+#[derive(Clone, Copy)]
 pub enum Names {
     Apart,
     Shared,
 }
 
 // What a call answers: the result's rows and the pairs that the walk reached, or why it is refused.
-#[derive(Drop)]
+#[derive(Clone, Copy)]
 pub enum Combined {
     Done(usize, usize),
     Refused(Refusal),

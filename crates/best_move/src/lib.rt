@@ -19,14 +19,14 @@ use state::Valued;
 use steps::Step;
 
 // What (best) answers: the action's number, how many objects, and these, 0 where there is none; or the first refusal met.
-#[derive(Drop)]
+#[derive(Clone, Copy)]
 pub enum Chosen {
     Move(usize, usize, u8, u8, u8, u8),
     Refused(Refusal),
 }
 
 // The best move so far: one more than its sum, its action, how many objects, and the number of its tuple of objects.
-#[derive(Drop)]
+#[derive(Clone, Copy)]
 pub struct Lead {
     pub best: u64,
     pub action: usize,
@@ -35,7 +35,7 @@ pub struct Lead {
 }
 
 // The best move so far, or a refusal.
-#[derive(Drop)]
+#[derive(Clone, Copy)]
 pub enum Led {
     To(Lead),
     Refused(Refusal),
@@ -255,22 +255,7 @@ fn try_action(
     ensures { Rates n (action_lent arities.now listings.now table.now action g n constants.now facts.now value.now l) result }
 {
     let mut sum = [0u64; diagram::RESULT_WORDS];
-    let mut product = [0u64; diagram::RESULT_WORDS];
-    let mut regressed = [0u64; diagram::RESULT_WORDS];
-    let mut weighted = [0u64; diagram::RESULT_WORDS];
-    let s = planner::variants_sum(
-        arities,
-        listings,
-        table,
-        action,
-        g,
-        value,
-        &mut sum,
-        &mut product,
-        &mut regressed,
-        &mut weighted,
-        work,
-    );
+    let s = planner::variants_sum(arities, listings, table, action, g, value, &mut sum, work);
     let Step::Rows(rows) = s else {
         return stopped(s, l);
     };

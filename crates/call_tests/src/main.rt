@@ -164,7 +164,7 @@ fn argument(desk: &[u64], kind: u8, i: usize) -> u64 {
 
 // Making words: a chain, or one word many times.
 
-#[derive(Drop)]
+#[derive(Clone, Copy)]
 struct Chain {
     letter: u64,
     first: u64,

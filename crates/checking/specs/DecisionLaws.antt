@@ -1,7 +1,7 @@
 -- Tests that decide, put together.
 use Rattle.std.specs.Prelude.{◌≡◌, refl, Bool, true, false, ◌&&◌, ◌||◌, ℕ, ◌≤◌, ◌<◌, eqb, ltb, leb}
 use Rattle.std.proofs.Common.{ap₂, eqb-true, eq-eqb, ltb-true, lt-ltb, leb-true, le-leb}
-use Rattle.basics.specs.Tests.{Flag, is_true_lem, is_false, flag, and_left, and_right}
+use Rattle.basics.specs.Tests.{Flag, is_true, is_false, flag, and_left, and_right}
 use Rattle.basics.specs.Members.{clash}
 use Rattle.diagram.specs.Words.{every_below}
 use Rattle.diagram.specs.WordLaws.{every-below, below-every}
@@ -14,7 +14,7 @@ pub decided : {b : Bool} {P : Type 0} → Decides b P → P → b ≡ true
 decided {b} {P} d p = go (flag b)
   where
     go : Flag b → b ≡ true
-    go (is_true_lem e) = e
+    go (is_true e) = e
     go (is_false e) = absurd (d.no e p)
 
 -- the same fact in other words

@@ -20,7 +20,7 @@ use Rattle.apply.specs.FormedLaws.{formed-visit}
 use Rattle.plan.specs.Walk.{is_end, on_high, on_low, finish_pairs, walked}
 use Rattle.plan.specs.Walk as rows
 use Rattle.plan.specs.WalkLaws.{finish-end, finish-branch}
-use Rattle.plan.specs.Plan.{Plan, Clean, Touched, went_to_lem, Planned, origin}
+use Rattle.plan.specs.Plan.{Plan, Clean, Touched, went_to, Planned, origin}
 use Rattle.plan.specs.PlanLaws.{plan-touched}
 use Rattle.plan.specs.declared.Went.{Went}
 use Rattle.plan.specs.declared.Went.TheVariants.{To, Full}
@@ -111,16 +111,16 @@ module _ (op : Operation) (limit : ℕ) (a b : Diagram) where
   unfolding pair_answer
   answer-pairs h e = rw (le-ltb limit (pair_count op a b) h, e)
 
-went_to_lem : (limit : ℕ) (qs : List rows.Pair) (n m : ℕ) → To n m ≡ went_to_lem limit qs → (length qs ≤ limit) × (m ≡ length qs)
-unfolding went_to_lem
+went_to_lem : (limit : ℕ) (qs : List rows.Pair) (n m : ℕ) → To n m ≡ went_to limit qs → (length qs ≤ limit) × (m ≡ length qs)
+unfolding went_to
 went_to_lem limit qs n m e = go (flag (leb (length qs) limit))
   where
     go : Flag (leb (length qs) limit) → (length qs ≤ limit) × (m ≡ length qs)
     go (is_true q) = let k : To n m ≡ To (length qs - 1) (length qs) = rw q at e in (leb-true _ _ q, (cc))
     go (is_false q) = let k : To n m ≡ Full = rw q at e in absurd (let z : ◌≡◌ {A = ℕ} 0 1 = cc in omega arith)
 
-went-full : (limit : ℕ) (qs : List rows.Pair) → Full ≡ went_to_lem limit qs → limit < length qs
-unfolding went_to_lem
+went-full : (limit : ℕ) (qs : List rows.Pair) → Full ≡ went_to limit qs → limit < length qs
+unfolding went_to
 went-full limit qs e = go (flag (leb (length qs) limit))
   where
     go : Flag (leb (length qs) limit) → limit < length qs

@@ -181,7 +181,7 @@ fn form(
 }
 
 // What pairing up answers: the pairs of the plan, that they are too many, or that a pair of leaves has a result above 10^18.
-#[derive(Drop)]
+#[derive(Clone, Copy)]
 pub enum Paired {
     Pairs(usize),
     TooMany,
@@ -214,7 +214,7 @@ fn pair_up(
 }
 
 // What one combination in a working space answers: the result's row, the rows in the space then and the pairs; or why there is none.
-#[derive(Drop)]
+#[derive(Clone, Copy)]
 pub enum Joined {
     At(usize, usize, usize),
     TooManyPairs,

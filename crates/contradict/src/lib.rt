@@ -20,7 +20,7 @@ use paths::PATHS;
 const TERMS: usize = Term::END as usize;
 
 // Where the paths of a diagram lead: to one leaf but where they contradict themselves, to others too, or there are too many paths.
-#[derive(Drop)]
+#[derive(Clone, Copy)]
 pub enum Led {
     Only,
     Others,

@@ -15,7 +15,7 @@ use refusal::Refusal;
 use state::{FACT_WORDS, Valued};
 
 // What counting answers: how many lines, or why there is none.
-#[derive(Drop)]
+#[derive(Clone, Copy)]
 pub enum Counted {
     Lines(usize),
     Refused(Refusal),

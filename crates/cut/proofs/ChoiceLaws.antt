@@ -1,4 +1,4 @@
--- Laws of `edge_of`, `choose_in` and its callers.
+-- Laws of `edge_of` and `choose`.
 use mathlib.Core.Path.{◌≡◌, refl, sym, ap, ap₂, ◌∙◌}
 use mathlib.Core.Bool.{Bool, true, false, cond}
 use mathlib.Core.List.{List}
@@ -24,8 +24,8 @@ use Rattle.cut.specs.Choosing.{Sides, Charted, Known, Asking, Edged, Tested, Edg
 use Rattle.paths.specs.PathLaws.{row_is}
 
 -- nothing has been asked yet
-pub known-none : (ar ws : List ℕ) (n m k : ℕ) → m * 256 ≤ k → Known ar ws (replicate k 0) n m
-known-none ar ws n m k h = record {
+pub known-none : (ar ws : List ℕ) (n k : ℕ) → 65536 ≤ k → Known ar ws (replicate k 0) n
+known-none ar ws n k h = record {
   places = rw length-replicate h;
   told = λ p q a b z. absurd (z (get_or-replicate k (p * 256 + q) 0 0 (omega arith)));
 }
@@ -35,8 +35,8 @@ leaf-stays : (ar : List ℕ) (d : Diagram) (b : Bool) (v : ℕ) → may_go ar d 
 unfolding may_go
 leaf-stays ar d b v = refl
 
-module _ {ar ws counts leaves memo : List ℕ} {n m r : ℕ} (g : Charted ar ws counts leaves n m) (k : Known ar ws memo n m) (h : r < n) where
-  pub edge-leaf : get_or ws (r * 3) 0 ≡ leaf_mark → EdgeFound ar ws n m r 0 memo
+module _ {ar ws counts leaves memo : List ℕ} {n m r : ℕ} (g : Charted ar ws counts leaves n m) (k : Known ar ws memo n) (h : r < n) where
+  pub edge-leaf : get_or ws (r * 3) 0 ≡ leaf_mark → EdgeFound ar ws n r 0 memo
   unfolding label_at
   edge-leaf e =
       let z = g.routed.rows.shown.leaves r h e in
@@ -46,28 +46,28 @@ module _ {ar ws counts leaves memo : List ℕ} {n m r : ℕ} (g : Charted ar ws 
       }
 
   module _ {sides : List ℕ} (s : Sides ws sides n m r) where
-    pub edge-asking : {memo' : List ℕ} → Known ar ws memo' n m → Asking ar ws counts leaves sides memo' n m
+    pub edge-asking : {memo' : List ℕ} → Known ar ws memo' n → Asking ar ws counts leaves sides memo' n m
     edge-asking l = record { charted = g; places = s.places; known = l }
 
     pub edge-edged : (side : ℕ) → 1 ≤ side → side ≤ 2 → (get_or ws (r * 3) 0 ≡ leaf_mark → ⊥) → Edged ws sides n m r side
     unfolding label_at
     edge-edged side a b e = record { row = h; branch = e; low = a; high = b; on = s }
 
-module _ {ar ws : List ℕ} {n m r : ℕ} {x : Bool} {memo' : List ℕ} (t : Tested ar ws n m (may_go ar (tree ws (n - 1)) (eqb 1 1) (tree ws r)) x memo') where
-  pub edge-true : x ≡ true → EdgeFound ar ws n m r 1 memo'
+module _ {ar ws : List ℕ} {n r : ℕ} {x : Bool} {memo' : List ℕ} (t : Tested ar ws n (may_go ar (tree ws (n - 1)) (eqb 1 1) (tree ws r)) x memo') where
+  pub edge-true : x ≡ true → EdgeFound ar ws n r 1 memo'
   edge-true e = record {
     answer = ap (λ (b : Bool). first_edge b (may_go ar (tree ws (n - 1)) false (tree ws r))) (sym e ∙ t.answer);
     known = t.known;
   }
 
-  module _ (e : x ≡ false) {y : Bool} {memo'' : List ℕ} (u : Tested ar ws n m (may_go ar (tree ws (n - 1)) (eqb 2 1) (tree ws r)) y memo'') where
-    pub edge-false : y ≡ true → EdgeFound ar ws n m r 2 memo''
+  module _ (e : x ≡ false) {y : Bool} {memo'' : List ℕ} (u : Tested ar ws n (may_go ar (tree ws (n - 1)) (eqb 2 1) (tree ws r)) y memo'') where
+    pub edge-false : y ≡ true → EdgeFound ar ws n r 2 memo''
     edge-false f = record { answer = ap₂ first_edge (sym e ∙ t.answer) (sym f ∙ u.answer); known = u.known }
 
-    pub edge_none : y ≡ false → EdgeFound ar ws n m r 0 memo''
+    pub edge_none : y ≡ false → EdgeFound ar ws n r 0 memo''
     edge_none f = record { answer = ap₂ first_edge (sym e ∙ t.answer) (sym f ∙ u.answer); known = u.known }
 
--- `choose_in`
+-- `choose`
 first-true : (a b : Bool) → 1 ≡ first_edge a b → a ≡ true
 first-true true b e = refl
 first-true false true e = absurd (omega arith)
@@ -112,7 +112,7 @@ module _ (ar ws : List ℕ) (n : ℕ) (l : is_listing ar ws ≡ true) (w : n ≡
   pub choose-charted : {counts leaves : List ℕ} {m : ℕ} → is_plain ar D ≡ true → Routed ws counts n m → Leaves ws leaves n m → Charted ar ws counts leaves n m
   choose-charted p r s = record { listed = l; plain = p; whole = w; routed = r; ends = s }
 
-  module _ {m i e : ℕ} {memo' : List ℕ} (o : choice ar D ≡ choice_below ar D (rows D) i) (p : 0 < i) (q : i ≤ n) (f : EdgeFound ar ws n m (i - 1) e memo') where
+  module _ {i e : ℕ} {memo' : List ℕ} (o : choice ar D ≡ choice_below ar D (rows D) i) (p : 0 < i) (q : i ≤ n) (f : EdgeFound ar ws n (i - 1) e memo') where
     abbrev High : Bool
     High = may_go ar (tree ws (n - 1)) true (tree ws (i - 1))
 

@@ -17,10 +17,6 @@ use Rattle.cut.specs.declared.Chosen.TheVariants.{Edge, Nothing}
 abbrev pub path_of : List ℕ → ℕ → ℕ → Path
 path_of ws n p = path_at (tree ws (n - 1)) p
 
--- up to so many paths a small memo is enough
-abbrev pub few_paths : ℕ
-few_paths = 16
-
 -- where each of the first m paths goes through row r
 pub record Sides (ws sides : List ℕ) (n m r : ℕ) : Type 0 where
   pub places : m ≤ length sides
@@ -38,17 +34,16 @@ pub record Charted (ar ws counts leaves : List ℕ) (n m : ℕ) : Type 0 where
 abbrev pub place_of : ℕ → ℕ → ℕ
 place_of p q = p * most_paths + q
 
--- what is known so far of m paths is right
-pub record Known (ar ws memo : List ℕ) (n m : ℕ) : Type 0 where
-  pub places : m * most_paths ≤ length memo
-  pub told : (p q : ℕ) → p < m → q < most_paths → get_or memo (place_of p q) 0 ≢ 0
+pub record Known (ar ws memo : List ℕ) (n : ℕ) : Type 0 where
+  pub places : most_paths * most_paths ≤ length memo
+  pub told : (p q : ℕ) → p < most_paths → q < most_paths → get_or memo (place_of p q) 0 ≢ 0
       → covers ar (path_of ws n p) (path_of ws n q) ≡ eqb (get_or memo (place_of p q) 0) 1
 
 -- what is at hand when paths are asked about
 pub record Asking (ar ws counts leaves sides memo : List ℕ) (n m : ℕ) : Type 0 where
   pub charted : Charted ar ws counts leaves n m
   pub places : m ≤ length sides
-  pub known : Known ar ws memo n m
+  pub known : Known ar ws memo n
 
 -- path p is held for others to cover it, and there is room to write one of them
 pub record Facing (ar ws into : List ℕ) (a : ℕ) (kinds from : List ℕ) (n p : ℕ) : Type 0 where
@@ -56,9 +51,9 @@ pub record Facing (ar ws into : List ℕ) (a : ℕ) (kinds from : List ℕ) (n p
   pub room : first_minimum + most_paths ≤ length from
 
 -- a test that may ask about paths
-pub record Tested (ar ws : List ℕ) (n m : ℕ) (b r : Bool) (memo' : List ℕ) : Type 0 where
+pub record Tested (ar ws : List ℕ) (n : ℕ) (b r : Bool) (memo' : List ℕ) : Type 0 where
   pub answer : r ≡ b
-  pub known : Known ar ws memo' n m
+  pub known : Known ar ws memo' n
 
 -- the edge is the one that paths of that side go through: path q avoids it, and covers path p
 unfoldable pub is_cover_on : List ℕ → List ℕ → ℕ → List ℕ → ℕ → ℕ → ℕ → Bool
@@ -96,9 +91,9 @@ first_edge true y = 1
 first_edge false true = 2
 first_edge false false = 0
 
-pub record EdgeFound (ar ws : List ℕ) (n m r e : ℕ) (memo' : List ℕ) : Type 0 where
+pub record EdgeFound (ar ws : List ℕ) (n r e : ℕ) (memo' : List ℕ) : Type 0 where
   pub answer : e ≡ first_edge (may_go ar (tree ws (n - 1)) true (tree ws r)) (may_go ar (tree ws (n - 1)) false (tree ws r))
-  pub known : Known ar ws memo' n m
+  pub known : Known ar ws memo' n
 
 -- the choice as it is handed on
 abbrev pub chosen_as : Choice → Chosen

@@ -8,10 +8,11 @@ ghost use Rattle.diagram.specs.Validity.{tree};
 ghost use Rattle.diagram.specs.Variables.{is_plain};
 ghost use Rattle.cutting.specs.Cut.{covers, may_go, choice, diagram_answer, answer_buffer, cut_answer, cut_buffer};
 ghost use Rattle.paths.specs.Inner.{Rows, Routed};
+ghost use Rattle.paths.specs.Paths.{most_paths};
 ghost use Rattle.matcher.specs.Stored.{Enterable};
 ghost use Rattle.matcher.specs.Covering.{Held};
 ghost use Rattle.pruning.specs.Pruning.{edge_at};
-ghost use Rattle.cut.specs.Choosing.{path_of, few_paths, Sides, Known, Asking, Facing, Charted, Edged, Tested, EdgeFound, is_cover_on, cover_below, is_free_on, chosen_as};
+ghost use Rattle.cut.specs.Choosing.{path_of, Sides, Known, Asking, Facing, Charted, Edged, Tested, EdgeFound, is_cover_on, cover_below, is_free_on, chosen_as};
 ghost use Rattle.cut.specs.Calls.{Cuttable, Choosable, Writable, Trimmed};
 
 use cutting::{Cut, Edge};
@@ -22,17 +23,11 @@ use refusal::Refusal;
 // A mark for each term.
 const TERMS: usize = Term::END as usize;
 
-// Up to so many paths a small memo is enough, which is sooner cleared.
-const FEW_PATHS: usize = 16;
-
-// The places of the small memo: a row of PATHS for each of those paths.
-const FEW_MEMO: usize = FEW_PATHS * PATHS;
-
-// The places of the full memo: one for each pair of paths.
-const MEMO: usize = PATHS * PATHS;
+// A place for each pair of paths.
+const MEMO: usize = 65536;
 
 // Which edge goes: the row and whether it is the true edge; or that none may.
-#[derive(Drop)]
+#[derive(Clone, Copy)]
 enum Chosen {
     Edge(usize, bool),
     Nothing,
@@ -58,7 +53,6 @@ fn is_covered(
     words: &[u64],
     counts: &[u64],
     n: usize,
-    m: usize,
     memo: &mut [u16],
     into: &[u64],
     a: usize,
@@ -67,11 +61,11 @@ fn is_covered(
     p: usize,
     q: usize,
 ) -> bool
-    requires known { Known arities.now words.now memo.old n m }
+    requires known { Known arities.now words.now memo.old n }
     requires held { Held arities.now (path_of words.now n p) into.now a kinds.now }
-    requires p_lt_m { p < m }
+    requires p_lt_most_paths { p < most_paths }
     requires enterable { Enterable arities.now words.now counts.now n q from.old }
-    ensures { Tested arities.now words.now n m (covers arities.now (path_of words.now n p) (path_of words.now n q)) result memo.new }
+    ensures { Tested arities.now words.now n (covers arities.now (path_of words.now n p) (path_of words.now n q)) result memo.new }
 {
     let at = p * PATHS + q;
     let known = basics::wide(memo[at]);
@@ -111,7 +105,7 @@ fn is_cover(
     requires facing { Facing arities.now words.now into.now a kinds.now from.old n p }
     requires p_lt_m { p < m }
     requires q_lt_m { q < m }
-    ensures { Tested arities.now words.now n m (is_cover_on arities.now words.now n sides.now side p q) result memo.new }
+    ensures { Tested arities.now words.now n (is_cover_on arities.now words.now n sides.now side p q) result memo.new }
 {
     if sides[q] == side {
         return false;
@@ -119,9 +113,7 @@ fn is_cover(
     if leaves[q] < leaves[p] {
         return false;
     }
-    is_covered(
-        arities, words, counts, n, m, memo, into, a, kinds, from, p, q,
-    )
+    is_covered(arities, words, counts, n, memo, into, a, kinds, from, p, q)
 }
 
 // Whether one of the m paths is such a cover of path p, which `into` and `kinds` hold.
@@ -144,7 +136,7 @@ fn some_cover(
     requires asking { Asking arities.now words.now counts.now leaves.now sides.now memo.old n m }
     requires facing { Facing arities.now words.now into.now a kinds.now from.old n p }
     requires p_lt_m { p < m }
-    ensures { Tested arities.now words.now n m (cover_below arities.now words.now n sides.now side p m) result memo.new }
+    ensures { Tested arities.now words.now n (cover_below arities.now words.now n sides.now side p m) result memo.new }
 {
     let mut q = 0;
     while q < m {
@@ -173,7 +165,7 @@ fn has_cover(
 ) -> bool
     requires asking { Asking arities.now words.now counts.now leaves.now sides.now memo.old n m }
     requires p_lt_m { p < m }
-    ensures { Tested arities.now words.now n m (cover_below arities.now words.now n sides.now side p m) result memo.new }
+    ensures { Tested arities.now words.now n (cover_below arities.now words.now n sides.now side p m) result memo.new }
 {
     let mut into = [0u64; matcher::PATH_WORDS];
     let mut kinds = [0u64; matcher::KINDS];
@@ -199,7 +191,7 @@ fn is_free(
 ) -> bool
     requires asking { Asking arities.now words.now counts.now leaves.now sides.now memo.old n m }
     requires p_lt_m { p < m }
-    ensures { Tested arities.now words.now n m (is_free_on arities.now words.now n sides.now side m p) result memo.new }
+    ensures { Tested arities.now words.now n (is_free_on arities.now words.now n sides.now side m p) result memo.new }
 {
     if sides[p] != side {
         return true;
@@ -240,7 +232,7 @@ fn may_go(
 ) -> bool
     requires asking { Asking arities.now words.now counts.now leaves.now sides.now memo.old n m }
     requires edged { Edged words.now sides.now n m r side }
-    ensures { Tested arities.now words.now n m (may_go arities.now (tree words.now (n - 1)) (eqb side 1) (tree words.now r)) result memo.new }
+    ensures { Tested arities.now words.now n (may_go arities.now (tree words.now (n - 1)) (eqb side 1) (tree words.now r)) result memo.new }
 {
     if is_zero(words, n, words[r * 3 + (side as usize)] as usize) {
         return false;
@@ -267,9 +259,9 @@ fn edge_of(
     r: usize,
 ) -> u64
     requires charted { Charted arities.now words.now counts.now leaves.now n m }
-    requires known { Known arities.now words.now memo.old n m }
+    requires known { Known arities.now words.now memo.old n }
     requires r_lt_n { r < n }
-    ensures { EdgeFound arities.now words.now n m r result memo.new }
+    ensures { EdgeFound arities.now words.now n r result memo.new }
 {
     if words[r * 3] == Label::LEAF {
         return 0;
@@ -285,27 +277,20 @@ fn edge_of(
     0
 }
 
-// The highest row, true edge first, whose edge may go. The memo has room for the m paths, and what it knows of them is right.
-fn choose_in(
-    arities: &[u64],
-    words: &[u64],
-    counts: &[u64],
-    n: usize,
-    m: usize,
-    memo: &mut [u16],
-) -> Chosen
+// The highest row, true edge first, whose edge may go.
+fn choose(arities: &[u64], words: &[u64], counts: &[u64], n: usize, m: usize) -> Chosen
     requires words_value { is_listing arities.now words.now ≡ true }
     requires words_value_2 { is_plain arities.now (diagram_of words.now) ≡ true }
     requires n_value { n ≡ row_count words.now }
     requires routed { Routed words.now counts.now n m }
-    requires known { Known arities.now words.now memo.old n m }
     ensures { result ≡ chosen_as (choice arities.now (diagram_of words.now)) }
 {
     let mut leaves = [0u64; PATHS];
     paths::find_leaves(words, counts, n, m, &mut leaves);
+    let mut memo = [0u16; MEMO];
     let mut i = n;
     while i > 0 {
-        let e = edge_of(arities, words, counts, n, m, &leaves, memo, i - 1);
+        let e = edge_of(arities, words, counts, n, m, &leaves, &mut memo, i - 1);
         if e == 1 {
             return Chosen::Edge(i - 1, true);
         }
@@ -315,45 +300,6 @@ fn choose_in(
         i -= 1;
     }
     Chosen::Nothing
-}
-
-// The same, with a new memo for few paths.
-fn choose_few(arities: &[u64], words: &[u64], counts: &[u64], n: usize, m: usize) -> Chosen
-    requires words_value { is_listing arities.now words.now ≡ true }
-    requires words_value_2 { is_plain arities.now (diagram_of words.now) ≡ true }
-    requires n_value { n ≡ row_count words.now }
-    requires routed { Routed words.now counts.now n m }
-    requires m_le_few_paths { m ≤ few_paths }
-    ensures { result ≡ chosen_as (choice arities.now (diagram_of words.now)) }
-{
-    let mut memo = [0u16; FEW_MEMO];
-    choose_in(arities, words, counts, n, m, &mut memo)
-}
-
-// The same, with a new memo for as many paths as there may be.
-fn choose_many(arities: &[u64], words: &[u64], counts: &[u64], n: usize, m: usize) -> Chosen
-    requires words_value { is_listing arities.now words.now ≡ true }
-    requires words_value_2 { is_plain arities.now (diagram_of words.now) ≡ true }
-    requires n_value { n ≡ row_count words.now }
-    requires routed { Routed words.now counts.now n m }
-    ensures { result ≡ chosen_as (choice arities.now (diagram_of words.now)) }
-{
-    let mut memo = [0u16; MEMO];
-    choose_in(arities, words, counts, n, m, &mut memo)
-}
-
-// The highest row, true edge first, whose edge may go.
-fn choose(arities: &[u64], words: &[u64], counts: &[u64], n: usize, m: usize) -> Chosen
-    requires words_value { is_listing arities.now words.now ≡ true }
-    requires words_value_2 { is_plain arities.now (diagram_of words.now) ≡ true }
-    requires n_value { n ≡ row_count words.now }
-    requires routed { Routed words.now counts.now n m }
-    ensures { result ≡ chosen_as (choice arities.now (diagram_of words.now)) }
-{
-    if m <= FEW_PATHS {
-        return choose_few(arities, words, counts, n, m);
-    }
-    choose_many(arities, words, counts, n, m)
 }
 
 // Where the word of the edge of row k on that side stands: a row has two, the true edge's first.

@@ -2,14 +2,14 @@
 use refusal::Refusal;
 
 // The side of a row on which an edge leaves it.
-#[derive(Drop)]
+#[derive(Clone, Copy)]
 pub enum Edge {
     True,
     False,
 }
 
 // What a cut answers: the row and edge that went and how many rows are left, or why none did.
-#[derive(Drop)]
+#[derive(Clone, Copy)]
 pub enum Cut {
     Done(usize, Edge, usize),
     Refused(Refusal),

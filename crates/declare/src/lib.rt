@@ -13,7 +13,7 @@ use refusal::Refusal;
 use words::Key;
 
 // How many names there are of each sort; parameters and variants are those of the last action, `earlier` the variants of those before it.
-#[derive(Drop)]
+#[derive(Clone, Copy)]
 pub struct Counts {
     pub constants: usize,
     pub predicates: usize,
@@ -24,7 +24,7 @@ pub struct Counts {
 }
 
 // What a declaration answers: how many names there are then, or why it is refused.
-#[derive(Drop)]
+#[derive(Clone, Copy)]
 pub enum Declared {
     Done(Counts),
     Refused(Refusal),
@@ -101,7 +101,7 @@ pub fn predicate(
 }
 
 // The parameters of an action: how many, all different, or one given twice.
-#[derive(Drop)]
+#[derive(Clone, Copy)]
 pub enum Parameters {
     Distinct(usize),
     Twice,

@@ -134,7 +134,7 @@ pub fn count(
 }
 
 // What the words of a (did ..) line say: its action and the action's variant, or why it is refused.
-#[derive(Drop)]
+#[derive(Clone, Copy)]
 enum Found {
     At(usize, usize),
     Refused(Refusal),

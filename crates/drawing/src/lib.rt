@@ -38,14 +38,14 @@ const RESULTS: usize = 65;
 const STACK_WORDS: usize = 129;
 
 // What building a line's diagram answers: its rows, or why it is refused.
-#[derive(Drop)]
+#[derive(Clone, Copy)]
 pub enum Built {
     Done(usize),
     Refused(Refusal),
 }
 
 // What running an operation answers: the tests and results on the stacks and the rows in the space then; or why it is refused, and the rows then.
-#[derive(Drop)]
+#[derive(Clone, Copy)]
 pub enum Moved {
     To(usize, usize, usize),
     Refused(Refusal, usize),
@@ -60,7 +60,7 @@ const SHORT_WORDS: usize = 510;
 const LINE_WORDS: usize = 8190;
 
 // How a diagram that is built ends: as it is, or closed up.
-#[derive(Drop)]
+#[derive(Clone, Copy)]
 enum Ending {
     Plain,
     Closed,

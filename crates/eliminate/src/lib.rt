@@ -19,14 +19,14 @@ use state::FACT_WORDS;
 pub const ENTRIES: u64 = 8192;
 
 // What working out a branch row gives: its table's names and how many entries it has, and the entries that the row counts; or too many.
-#[derive(Drop)]
+#[derive(Clone, Copy)]
 pub enum Worked {
     Table(u64, u64, u64),
     Full,
 }
 
 // How far the rows are worked out: where the next table begins and how many entries are counted; or that they are too many.
-#[derive(Drop)]
+#[derive(Clone, Copy)]
 pub enum Reached {
     At(usize, u64),
     Over,

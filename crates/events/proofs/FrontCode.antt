@@ -1,31 +1,24 @@
 -- What the functions of a pass answer, from what their parts answered.
-use mathlib.Core.Path.{◌≡◌, refl, sym, ap, ◌∙◌}
+use mathlib.Core.Path.{◌≡◌, ap, ◌∙◌}
 use mathlib.Core.List.{List}
-use mathlib.Core.Bool.{Bool, true, false, cond, true≢false}
+use mathlib.Core.Bool.{Bool, true, false, cond}
 use Prim.Native.Nat.{ℕ, suc, ◌+◌, ◌-◌, ◌≤◌, ◌<◌}
-use native.Mathlib.Nat.{add-zero}
 use native.Mathlib.Numerals.{add-one}
 use native.Mathlib.Omega.{arith}
 use lib.Dec.{eqb}
 use lib.ListN.{length, get_or, take, drop, drop_of_length-le, length-drop}
 use lib.Seq.{drop-cons}
-use borrow.Author.Tests.{eq-eqb, ne_eqb, eqb-true, le-leb, lt-leb}
-use Rattle.basics.specs.Tests.{Flag, is_true, is_false, flag}
+use borrow.Author.Tests.{eq-eqb, ne_eqb, le-leb, lt-leb}
 use Rattle.words.specs.Bytes.{is_letter, is_digit, is_name_byte, run, value_of}
 use Rattle.words.specs.Keys.{key_of}
-use Rattle.words.specs.ByteLaws.{inside, part-tail}
+use Rattle.words.specs.ByteLaws.{part-tail}
 use Rattle.words.specs.declared.Key.{Key}
-use Rattle.events.specs.declared.Event.{Event}
 use Rattle.events.specs.declared.Event.TheVariants.{Name, Variable, Parameter, Minimum, Number, Equal, Holds, Step, End}
-use Rattle.events.specs.declared.Next.{Next}
-use Rattle.events.specs.declared.Mark.{Mark}
-use Rattle.events.specs.declared.Mark.TheVariants as M
-use Rattle.events.specs.declared.Head.{Head}
-use Rattle.events.specs.declared.Head.TheVariants as H
+use Rattle.events.specs.declared.Seen.{Seen}
 use Rattle.events.specs.declared.Word.{Word}
-use Rattle.events.specs.FrontLaws.{space-room, word_room, if-room}
-use Rattle.events.specs.Inner.{next_from, next_at, last_place, Placed, head_of, start_of, is_equality, word_front, Worded}
-use Rattle.events.specs.Front.{Seen, space, behind, space_bit, spaces, seen, name_key, word_at, is_if, atom_front, number_front, front_of}
+use Rattle.events.specs.FrontLaws.{front-moves}
+use Rattle.events.specs.Inner.{next_at}
+use Rattle.events.specs.Front.{space, behind, space_bit, spaces, seen, name_key, word_at, is_if, atom_front, number_front, front_of}
 
 module _ (s : List ℕ) (i : ℕ) where
   pub spaces-stop : i < length s → get_or s i 0 ≡ 41 → spaces (drop i s) ≡ 0
@@ -76,232 +69,73 @@ module _ (s : List ℕ) (i : ℕ) {t : List ℕ} {n place : ℕ} (p : t ≡ drop
   unfolding word_at name_key
   word-short h e = rw (← p, ← q, le-leb n 15 h, ← e, ← r)
 
--- an answer as it is made: of an event that takes n bytes, of a part, of the end
-next-is : (i : ℕ) {e : Event} {n : ℕ} {x : Seen} → seen e n ≡ x → record { event = e; place = i + n } ≡ next_from i x
-next-is i p = ap (next_from i) p
+module _ (s : List ℕ) (i : ℕ) {b : ℕ} (p : b ≡ get_or s (i + 1) 0) where
+  pub atom-equal : {n : ℕ} → b ≡ 61 → n ≡ space s (i + 2) → seen Equal n ≡ atom_front s i
+  unfolding atom_front
+  atom-equal e q = rw (← p, eq-eqb b 61 e, ← q)
 
-next_of : (i : ℕ) {r : Next} {x y : Seen} → r ≡ next_from i x → x ≡ y → r ≡ next_from i y
-next_of i e p = e ∙ ap (next_from i) p
+  pub atom-holds : {w : Word} {t : List ℕ} {n : ℕ} → (b ≡ 61 → ⊥) → w ≡ word_at s (i + 1) → t ≡ drop (i + 1) s → n ≡ spaces t → seen (Holds w.key n) w.place ≡ atom_front s i
+  unfolding atom_front
+  atom-holds f q r u = rw (← p, ne_eqb b 61 f, ← q, ← r, ← u)
 
-next-none : (i : ℕ) {x : Seen} → seen End 0 ≡ x → record { event = End; place = i } ≡ next_from i x
-next-none i p = ap (λ (n : ℕ). record { event = End; place = n }) (sym (add-zero i)) ∙ ap (next_from i) p
-
-pub number-front : (s : List ℕ) (from : ℕ) {n v m : ℕ} → n ≡ run is_digit s → v ≡ value_of (take n s) → m ≡ space s n
-    → record { event = Number v; place = from + m } ≡ next_from from (number_front s)
+pub number-front : (s : List ℕ) {n v m : ℕ} → n ≡ run is_digit s → v ≡ value_of (take n s) → m ≡ space s n → seen (Number v) m ≡ number_front s
 unfolding number_front
-number-front s from p q r = next-is from (rw (← p, ← q, ← r))
+number-front s p q r = rw (← p, ← q, ← r)
 
--- what the first byte says
-module _ (b : ℕ) {l : Bool} (q : l ≡ is_letter b) where
-  pub head_plain : l ≡ true → H.Word M.Plain ≡ head_of b
-  unfolding head_of
-  head_plain e = rw (← q, e)
+pub front-none : (s : List ℕ) → length s ≤ 1 → seen End 0 ≡ front_of s
+unfolding front_of
+front-none s h = rw (le-leb (length s) 1 h)
+
+module _ (s : List ℕ) {b : ℕ} {l : Bool} (h : 1 < length s) (p : b ≡ get_or s 0 0) (q : l ≡ is_letter b) where
+  pub front-name : {w : Word} → l ≡ true → w ≡ word_at s 0 → seen (Name w.key) w.place ≡ front_of s
+  unfolding front_of
+  front-name e r = rw (lt-leb (length s) 1 h, ← p, ← q, e, ← r)
 
   module _ {d : Bool} (e : l ≡ false) (u : d ≡ is_digit b) where
-    pub head-number : d ≡ true → H.Number ≡ head_of b
-    unfolding head_of
-    head-number f = rw (← q, e, ← u, f)
+    pub front-number : {x : Seen} → d ≡ true → x ≡ number_front s → x ≡ front_of s
+    unfolding front_of
+    front-number f r = rw (lt-leb (length s) 1 h, ← p, ← q, e, ← u, f) r
 
     module _ (f : d ≡ false) where
-      pub head-variable : b ≡ 63 → H.Word M.Variable ≡ head_of b
-      unfolding head_of
-      head-variable g = rw (← q, e, ← u, f, eq-eqb b 63 g)
+      pub front-variable : {w : Word} → b ≡ 63 → w ≡ word_at s 1 → seen (Variable w.key) w.place ≡ front_of s
+      unfolding front_of
+      front-variable g r = rw (lt-leb (length s) 1 h, ← p, ← q, e, ← u, f, eq-eqb b 63 g, ← r)
 
       module _ (n1 : b ≡ 63 → ⊥) where
-        pub head-parameter : b ≡ 33 → H.Word M.Parameter ≡ head_of b
-        unfolding head_of
-        head-parameter g = rw (← q, e, ← u, f, ne_eqb b 63 n1, eq-eqb b 33 g)
+        pub front-parameter : {w : Word} → b ≡ 33 → w ≡ word_at s 1 → seen (Parameter w.key) w.place ≡ front_of s
+        unfolding front_of
+        front-parameter g r = rw (lt-leb (length s) 1 h, ← p, ← q, e, ← u, f, ne_eqb b 63 n1, eq-eqb b 33 g, ← r)
 
         module _ (n2 : b ≡ 33 → ⊥) where
-          pub head-minimum : b ≡ 37 → H.Word M.Minimum ≡ head_of b
-          unfolding head_of
-          head-minimum g = rw (← q, e, ← u, f, ne_eqb b 63 n1, ne_eqb b 33 n2, eq-eqb b 37 g)
+          pub front-minimum : {w : Word} → b ≡ 37 → w ≡ word_at s 1 → seen (Minimum w.key) w.place ≡ front_of s
+          unfolding front_of
+          front-minimum g r = rw (lt-leb (length s) 1 h, ← p, ← q, e, ← u, f, ne_eqb b 63 n1, ne_eqb b 33 n2, eq-eqb b 37 g, ← r)
 
           module _ (n3 : b ≡ 37 → ⊥) where
-            pub head-atom : b ≡ 40 → H.Word M.Atom ≡ head_of b
-            unfolding head_of
-            head-atom g = rw (← q, e, ← u, f, ne_eqb b 63 n1, ne_eqb b 33 n2, ne_eqb b 37 n3, eq-eqb b 40 g)
+            -- past the marks: what stands at a bracket, and at another byte
+            unmarked : front_of s ≡ cond (eqb b 40) (cond (is_if s) (atom_front s 4) (atom_front s 0)) (cond (eqb b 41) (seen Step (space s 1)) (seen End 0))
+            unfolding front_of
+            unmarked = rw (lt-leb (length s) 1 h, ← p, ← q, e, ← u, f, ne_eqb b 63 n1, ne_eqb b 33 n2, ne_eqb b 37 n3)
+
+            pub front-if : {c : Bool} {x : Seen} → b ≡ 40 → c ≡ is_if s → c ≡ true → x ≡ atom_front s 4 → x ≡ front_of s
+            front-if g c d r = rw (unmarked, eq-eqb b 40 g, ← c, d) r
+
+            pub front-atom : {c : Bool} {x : Seen} → b ≡ 40 → c ≡ is_if s → c ≡ false → x ≡ atom_front s 0 → x ≡ front_of s
+            front-atom g c d r = rw (unmarked, eq-eqb b 40 g, ← c, d) r
 
             module _ (n4 : b ≡ 40 → ⊥) where
-              pub head_step : b ≡ 41 → H.Step ≡ head_of b
-              unfolding head_of
-              head_step g = rw (← q, e, ← u, f, ne_eqb b 63 n1, ne_eqb b 33 n2, ne_eqb b 37 n3, ne_eqb b 40 n4, eq-eqb b 41 g)
+              pub front-step : {n : ℕ} → b ≡ 41 → n ≡ space s 1 → seen Step n ≡ front_of s
+              front-step g r = rw (unmarked, ne_eqb b 40 n4, eq-eqb b 41 g, ← r)
 
-              pub head-end : (b ≡ 41 → ⊥) → H.End ≡ head_of b
-              unfolding head_of
-              head-end g = rw (← q, e, ← u, f, ne_eqb b 63 n1, ne_eqb b 33 n2, ne_eqb b 37 n3, ne_eqb b 40 n4, ne_eqb b 41 g)
+              pub front-other : (b ≡ 41 → ⊥) → seen End 0 ≡ front_of s
+              front-other g = rw (unmarked, ne_eqb b 40 n4, ne_eqb b 41 g)
 
--- where a name begins, by its mark
-module _ (s : List ℕ) {m : Mark} where
-  pub start_plain : m ≡ M.Plain → 0 ≡ start_of s m
-  unfolding start_of
-  start_plain e = ap (start_of s) (sym e)
-
-  pub start-variable : m ≡ M.Variable → 1 ≡ start_of s m
-  unfolding start_of
-  start-variable e = ap (start_of s) (sym e)
-
-  pub start-parameter : m ≡ M.Parameter → 1 ≡ start_of s m
-  unfolding start_of
-  start-parameter e = ap (start_of s) (sym e)
-
-  pub start-minimum : m ≡ M.Minimum → 1 ≡ start_of s m
-  unfolding start_of
-  start-minimum e = ap (start_of s) (sym e)
-
-  module _ (e : m ≡ M.Atom) {b : Bool} (q : b ≡ is_if s) where
-    pub start-if : b ≡ true → 5 ≡ start_of s m
-    unfolding start_of
-    start-if f = rw (e, ← q, f)
-
-    pub start-atom : b ≡ false → 1 ≡ start_of s m
-    unfolding start_of
-    start-atom f = rw (e, ← q, f)
-
--- whether it is an equality
-module _ (s : List ℕ) (i : ℕ) {m : Mark} where
-  pub no_plain : m ≡ M.Plain → false ≡ is_equality s m i
-  unfolding is_equality
-  no_plain e = ap (λ (x : Mark). is_equality s x i) (sym e)
-
-  pub no-variable : m ≡ M.Variable → false ≡ is_equality s m i
-  unfolding is_equality
-  no-variable e = ap (λ (x : Mark). is_equality s x i) (sym e)
-
-  pub no-parameter : m ≡ M.Parameter → false ≡ is_equality s m i
-  unfolding is_equality
-  no-parameter e = ap (λ (x : Mark). is_equality s x i) (sym e)
-
-  pub no-minimum : m ≡ M.Minimum → false ≡ is_equality s m i
-  unfolding is_equality
-  no-minimum e = ap (λ (x : Mark). is_equality s x i) (sym e)
-
-  pub equality-is : {b : ℕ} → m ≡ M.Atom → b ≡ get_or s i 0 → eqb b 61 ≡ is_equality s m i
-  unfolding is_equality
-  equality-is e p = rw (e, p)
-
--- the atom whose name begins at i
-abbrev atom_from : List ℕ → ℕ → Seen
-atom_from s i = cond (eqb (get_or s i 0) 61) (seen Equal (space s (i + 1))) (seen (Holds (word_at s i).key (spaces (drop i s))) (word_at s i).place)
-
-atom-from : (s : List ℕ) → word_front s M.Atom ≡ atom_from s (start_of s M.Atom)
-unfolding word_front start_of atom_front
-atom-from s = go (is_if s)
-  where
-    go : (b : Bool) → cond b (atom_front s 4) (atom_front s 0) ≡ atom_from s (cond b 5 1)
-    go true = refl
-    go false = refl
-
--- where the name begins there is a byte, or the bytes end
-start-room : (s : List ℕ) (m : Mark) → 1 < length s → start_of s m ≤ length s
-unfolding start_of
-start-room s M.Plain h = omega arith
-start-room s M.Variable h = omega arith
-start-room s M.Parameter h = omega arith
-start-room s M.Minimum h = omega arith
-start-room s M.Atom h = go (flag (is_if s))
-  where
-    go : Flag (is_if s) → cond (is_if s) 5 1 ≤ length s
-    go (is_true e) = rw e (if-room s e)
-    go (is_false e) = rw e (omega arith)
-
--- what the event of a name is, i being where it begins, and that its place is within the line
-module _ {s : List ℕ} (m : Mark) {from i : ℕ} (h : Worded from s) (p : i ≡ start_of s m) where
-  pub start_fits : i ≤ length s
-  start_fits = rw p (start-room s m h.two)
-
-  module _ {b : Bool} (q : b ≡ is_equality s m i) where
-    module _ (e : b ≡ true) where
-      -- an atom whose name is =
-      atom-is : (x : Mark) → is_equality s x i ≡ true → (x ≡ M.Atom) × (eqb (get_or s i 0) 61 ≡ true)
-      unfolding is_equality
-      atom-is M.Plain f = absurd (true≢false (sym f))
-      atom-is M.Variable f = absurd (true≢false (sym f))
-      atom-is M.Parameter f = absurd (true≢false (sym f))
-      atom-is M.Minimum f = absurd (true≢false (sym f))
-      atom-is M.Atom f = (refl, f)
-
-      pub equal-room : i + 1 ≤ length s
-      equal-room = let l = inside s i 61 (eqb-true (get_or s i 0) 61 (atom-is m (sym q ∙ e)).1) (omega arith) in omega arith
-
-      pub front-equal : {n : ℕ} → n ≡ space s (i + 1) → record { event = Equal; place = from + n } ≡ next_from from (word_front s m)
-      front-equal r =
-          let a = atom-is m (sym q ∙ e) in
-          let t : word_front s m ≡ atom_from s i = ap (word_front s) a.0 ∙ atom-from s ∙ ap (atom_from s) (sym (p ∙ ap (start_of s) a.0)) in
-          next-is from (rw (t, a.1, ← r))
-
-    pub front-holds : {w : Word} {t : List ℕ} {n : ℕ} → b ≡ false → m ≡ M.Atom → w ≡ word_at s i → t ≡ drop i s → n ≡ spaces t
-        → record { event = Holds w.key n; place = from + w.place } ≡ next_from from (word_front s m)
-    unfolding is_equality
-    front-holds e a r u v =
-        let t : word_front s m ≡ atom_from s i = ap (word_front s) a ∙ atom-from s ∙ ap (atom_from s) (sym (p ∙ ap (start_of s) a)) in
-        let f : eqb (get_or s i 0) 61 ≡ false = ap (λ (x : Mark). is_equality s x i) (sym a) ∙ sym q ∙ e in
-        next-is from (rw (t, f, ← r, ← u, ← v))
-
-  module _ {w : Word} (r : w ≡ word_at s i) where
-    at-start : {x : Mark} → m ≡ x → w ≡ word_at s (start_of s x)
-    at-start e = r ∙ ap (word_at s) (p ∙ ap (start_of s) e)
-
-    pub front-name : m ≡ M.Plain → record { event = Name w.key; place = from + w.place } ≡ next_from from (word_front s m)
-    unfolding word_front start_of
-    front-name e = next-is from (rw (e, at-start e))
-
-    pub front-variable : m ≡ M.Variable → record { event = Variable w.key; place = from + w.place } ≡ next_from from (word_front s m)
-    unfolding word_front start_of
-    front-variable e = next-is from (rw (e, at-start e))
-
-    pub front-parameter : m ≡ M.Parameter → record { event = Parameter w.key; place = from + w.place } ≡ next_from from (word_front s m)
-    unfolding word_front start_of
-    front-parameter e = next-is from (rw (e, at-start e))
-
-    pub front-minimum : m ≡ M.Minimum → record { event = Minimum w.key; place = from + w.place } ≡ next_from from (word_front s m)
-    unfolding word_front start_of
-    front-minimum e = next-is from (rw (e, at-start e))
-
--- the event by what the first byte says
-abbrev by_head : List ℕ → Head → Seen
-by_head s (H.Word m) = word_front s m
-by_head s H.Number = number_front s
-by_head s H.Step = seen Step (space s 1)
-by_head s H.End = seen End 0
-
-by_cond : (s : List ℕ) (b : Bool) (x y : Head) → by_head s (cond b x y) ≡ cond b (by_head s x) (by_head s y)
-by_cond s true x y = refl
-by_cond s false x y = refl
-
-pub front-none : (s : List ℕ) (from : ℕ) → length s ≤ 1 → record { event = End; place = from } ≡ next_from from (front_of s)
-unfolding front_of
-front-none s from h = next-none from (rw (le-leb (length s) 1 h))
-
-module _ (s : List ℕ) (from : ℕ) {b : ℕ} {x : Head} (h : 1 < length s) (p : b ≡ get_or s 0 0) (q : x ≡ head_of b) where
-  by_front : by_head s x ≡ front_of s
-  unfolding front_of head_of word_front
-  by_front = rw (q, p, lt-leb (length s) 1 h) (simp by_cond)
-
-  pub front-word : {m : Mark} {r : Next} → x ≡ H.Word m → r ≡ next_from from (word_front s m) → r ≡ next_from from (front_of s)
-  front-word e u = next_of from u (ap (by_head s) (sym e) ∙ by_front)
-
-  pub front-number : {r : Next} → x ≡ H.Number → r ≡ next_from from (number_front s) → r ≡ next_from from (front_of s)
-  front-number e u = next_of from u (ap (by_head s) (sym e) ∙ by_front)
-
-  pub front-step : {n : ℕ} → x ≡ H.Step → n ≡ space s 1 → record { event = Step; place = from + n } ≡ next_from from (front_of s)
-  front-step e u = next-is from (ap (seen Step) u ∙ ap (by_head s) (sym e) ∙ by_front)
-
-  pub front-other : x ≡ H.End → record { event = End; place = from } ≡ next_from from (front_of s)
-  front-other e = next-none from (ap (by_head s) (sym e) ∙ by_front)
-
-pub next-front : (s : List ℕ) (i : ℕ) {r : Next} → r ≡ next_from i (front_of (take (length s - i) (drop i s))) → r ≡ next_at s i
+pub next-front : (s : List ℕ) (i : ℕ) {x : Seen} → x ≡ front_of (take (length s - i) (drop i s)) → record { event = x.event; place = i + x.taken } ≡ next_at s i
 unfolding next_at
-next-front s i e = e ∙ ap (λ (t : List ℕ). next_from i (front_of t)) (part-tail i s)
+next-front s i e = rw (e, part-tail i s)
 
--- the place behind a word, or behind a space, is within the line
-module _ (s : List ℕ) (i : ℕ) (from : ℕ) (h : Placed from s) (k : i ≤ length s) where
-  pub word_fits : {w : Word} → w ≡ word_at s i → from + w.place ≤ last_place
-  word_fits e = omega (arith, h.room, ap (λ (x : Word). x.place) e, (word_room s i k).1)
-
-  pub space-fits : {n : ℕ} → n ≡ space s i → from + n ≤ last_place
-  space-fits e = omega (arith, h.room, e, (space-room s i k).1)
-
--- the bytes from a place of a line on stand there
-pub placed : (s : List ℕ) (i : ℕ) → i ≤ length s → length s ≤ last_place → Placed i (take (length s - i) (drop i s))
-placed s i h k = rw (part-tail i s) (record { room = omega (arith, length-drop i s) })
+-- the next place is within the line
+pub next-room : (s : List ℕ) (i : ℕ) (x : Seen) → i ≤ length s → x ≡ front_of (take (length s - i) (drop i s)) → i + x.taken ≤ length s
+next-room s i x h e =
+    let p : x ≡ front_of (drop i s) = e ∙ ap front_of (part-tail i s) in
+    omega (arith, ap (λ (y : Seen). y.taken) p, (front-moves (drop i s)).within, length-drop i s)

@@ -5,6 +5,7 @@ use Rattle.words.specs.Keys.{key_of}
 use Rattle.words.specs.declared.Key.{Key}
 use Rattle.events.specs.declared.Event.{Event}
 use Rattle.events.specs.declared.Event.TheVariants.{Name, Variable, Parameter, Minimum, Number, Equal, Holds, Step, End}
+use Rattle.events.specs.declared.Seen.{Seen}
 use Rattle.events.specs.declared.Word.{Word}
 
 -- i, or the place behind it where a space stands there
@@ -22,11 +23,6 @@ space_bit b = cond (eqb b 32) 1 0
 unfoldable pub spaces : List ℕ → ℕ
 spaces [] = 0
 spaces (b ∷ s) = cond (eqb b 41) 0 (space_bit b + spaces s)
-
--- an event, and how many bytes it takes with the space behind it
-pub record Seen : Type 0 where
-  pub event : Event
-  pub taken : ℕ
 
 abbrev pub seen : Event → ℕ → Seen
 seen e n = record { event = e; taken = n }

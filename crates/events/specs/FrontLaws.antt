@@ -5,15 +5,16 @@ use Rattle.basics.specs.Tests.{and_right}
 use Rattle.words.specs.Bytes.{is_letter, is_digit, is_name_byte, run}
 use Rattle.words.specs.ByteLaws.{inside, run-le, run-pos, letter-name}
 use Rattle.events.specs.declared.Event.TheVariants.{Name, End}
+use Rattle.events.specs.declared.Seen.{Seen}
 use Rattle.events.specs.Inner.{next_at}
-use Rattle.events.specs.Front.{Seen, space, behind, seen, word_at, is_if, atom_front, number_front, front_of, is_end, events_from, events_of}
+use Rattle.events.specs.Front.{space, behind, seen, word_at, is_if, atom_front, number_front, front_of, is_end, events_from, events_of}
 
 -- an event stays within n bytes, and takes one at least unless it is the end
 pub record Moves (n : ℕ) (x : Seen) : Type 0 where
   pub within : x.taken ≤ n
   pub moves : is_end x.event ≡ false → 0 < x.taken
 
-pub space-room : (s : List ℕ) (i : ℕ) → i ≤ length s → (i ≤ space s i) × (space s i ≤ length s)
+space-room : (s : List ℕ) (i : ℕ) → i ≤ length s → (i ≤ space s i) × (space s i ≤ length s)
 unfolding space
 space-room s i h = go (eqb (get_or s i 0) 32) refl
   where
@@ -32,7 +33,7 @@ behind-room s i h = go (eqb (get_or s i 0) 41) refl
         (omega (arith, r), omega (arith, r))
     go false e = space-room s i h
 
-pub word_room : (s : List ℕ) (i : ℕ) → i ≤ length s → (i + run is_name_byte (drop i s) ≤ (word_at s i).place) × ((word_at s i).place ≤ length s)
+word_room : (s : List ℕ) (i : ℕ) → i ≤ length s → (i + run is_name_byte (drop i s) ≤ (word_at s i).place) × ((word_at s i).place ≤ length s)
 unfolding word_at
 word_room s i h =
     behind-room s (i + run is_name_byte (drop i s)) (omega (arith, run-le is_name_byte (drop i s), length-drop i s))
@@ -62,7 +63,7 @@ no-name-0 : is_name_byte 0 ≡ false
 unfolding is_name_byte is_letter is_digit
 no-name-0 = refl
 
-pub if-room : (s : List ℕ) → is_if s ≡ true → 5 ≤ length s
+if-room : (s : List ℕ) → is_if s ≡ true → 5 ≤ length s
 unfolding is_if
 if-room s e =
     let e1 = and_right (eqb (get_or s 1 0) 105) _ e in

@@ -2,15 +2,15 @@
 ghost use Rattle.std.specs.Prelude.{◌≡◌, ◌+◌, ◌≤◌, ◌<◌, length};
 ghost use Rattle.events.specs.Events.{first_word};
 ghost use Rattle.events.specs.Contents.{key_in, number_in};
-ghost use Rattle.events.specs.Inner.{next_from, next_at, Placed, head_of, start_of, is_equality, word_front, Worded};
-ghost use Rattle.events.specs.Front.{is_end, space, behind, space_bit, spaces, word_at, is_if, number_front, front_of};
+ghost use Rattle.events.specs.Inner.{next_at};
+ghost use Rattle.events.specs.Front.{is_end, space, behind, space_bit, spaces, word_at, is_if, atom_front, number_front, front_of};
 
 use text::Kind;
 use words::Key;
 
 // What stands next: a name, ?name, !name, %name or number; an atom's begin, = or a name with its count of terms; the closing
 // bracket of an if form; the line's end.
-#[derive(Drop)]
+#[derive(Clone, Copy)]
 pub enum Event {
     Name(Key),
     Variable(Key),
@@ -23,34 +23,22 @@ pub enum Event {
     End,
 }
 
+// An event, and how many bytes it takes with the space behind it.
+#[derive(Clone, Copy)]
+pub struct Seen {
+    pub event: Event,
+    pub taken: usize,
+}
+
 // An event, and the place of the next one.
-#[derive(Drop)]
+#[derive(Clone, Copy)]
 pub struct Next {
     pub event: Event,
     pub place: usize,
 }
 
-// How a name is marked: a plain one, ?name, !name, %name, or an atom's behind its bracket.
-#[derive(Drop)]
-pub enum Mark {
-    Plain,
-    Variable,
-    Parameter,
-    Minimum,
-    Atom,
-}
-
-// What the first byte says: a name with its mark, a number, the closing bracket of an if form, or the end.
-#[derive(Drop)]
-pub enum Head {
-    Word(Mark),
-    Number,
-    Step,
-    End,
-}
-
 // A name's key, and the place of what follows it.
-#[derive(Drop)]
+#[derive(Clone, Copy)]
 struct Word {
     key: Key,
     place: usize,
@@ -170,150 +158,104 @@ fn is_if(s: &[u8]) -> bool
     words::byte_at(s, 4) == b'('
 }
 
-// The number that s begins with, a line's bytes from the place `from` on.
-fn number_at(s: &[u8], from: usize) -> Next
-    requires { Placed from s.now }
-    ensures { result ≡ next_from from (number_front s.now) }
+// The atom whose bracket stands at i.
+fn atom_at(s: &[u8], i: usize) -> Seen
+    requires { i ≤ 4 }
+    ensures { result ≡ atom_front s.now i }
+{
+    let j = i + 1;
+    if words::byte_at(s, j) == b'=' {
+        let k = i + 2;
+        let place = skip(s, k);
+        return Seen {
+            event: Event::Equal,
+            taken: place,
+        };
+    }
+    let w = word_at(s, j);
+    let n = count_words(words::rest(s, j));
+    let key = w.key;
+    Seen {
+        event: Event::Holds(key, n),
+        taken: w.place,
+    }
+}
+
+// The number that s begins with.
+fn number_at(s: &[u8]) -> Seen
+    ensures { result ≡ number_front s.now }
 {
     let n = words::digit_run(s);
     let v = words::value(&s[..n]);
-    let place = from + skip(s, n);
-    Next {
+    let place = skip(s, n);
+    Seen {
         event: Event::Number(v),
-        place: place,
+        taken: place,
     }
 }
 
-// What the first byte says.
-fn head_of(b: u8) -> Head
-    ensures { result ≡ head_of b }
-{
-    if words::letter(b) {
-        return Head::Word(Mark::Plain);
-    }
-    if words::digit(b) {
-        return Head::Number;
-    }
-    if b == b'?' {
-        return Head::Word(Mark::Variable);
-    }
-    if b == b'!' {
-        return Head::Word(Mark::Parameter);
-    }
-    if b == b'%' {
-        return Head::Word(Mark::Minimum);
-    }
-    if b == b'(' {
-        return Head::Word(Mark::Atom);
-    }
-    if b == b')' {
-        return Head::Step;
-    }
-    Head::End
-}
-
-// Where the name begins: behind its mark, or behind the bracket of an atom, which may stand in an if form.
-fn start_of(s: &[u8], mark: Mark) -> usize
-    ensures { result ≡ start_of s.now mark }
-{
-    match mark {
-        Mark::Plain => 0,
-        Mark::Variable => 1,
-        Mark::Parameter => 1,
-        Mark::Minimum => 1,
-        Mark::Atom => {
-            if is_if(s) {
-                return 5;
-            }
-            1
-        }
-    }
-}
-
-// Whether = stands in the place of an atom's name.
-fn is_equality(s: &[u8], mark: Mark, i: usize) -> bool
-    ensures { result ≡ is_equality s.now mark i }
-{
-    match mark {
-        Mark::Plain => false,
-        Mark::Variable => false,
-        Mark::Parameter => false,
-        Mark::Minimum => false,
-        Mark::Atom => words::byte_at(s, i) == b'=',
-    }
-}
-
-// The event of a name with its mark. One place reads all names, so that its parts become one function; each way makes the answer as it is returned: copied
-// into it, a key or an event costs more than its reading.
-fn word_front(s: &[u8], mark: Mark, from: usize) -> Next
-    requires { Worded from s.now }
-    ensures { result ≡ next_from from (word_front s.now mark) }
-{
-    let i = start_of(s, mark);
-    if is_equality(s, mark, i) {
-        let j = i + 1;
-        let place = from + skip(s, j);
-        return Next {
-            event: Event::Equal,
-            place: place,
-        };
-    }
-    let w = word_at(s, i);
-    let key = w.key;
-    let place = from + w.place;
-    match mark {
-        Mark::Plain => Next {
-            event: Event::Name(key),
-            place: place,
-        },
-        Mark::Variable => Next {
-            event: Event::Variable(key),
-            place: place,
-        },
-        Mark::Parameter => Next {
-            event: Event::Parameter(key),
-            place: place,
-        },
-        Mark::Minimum => Next {
-            event: Event::Minimum(key),
-            place: place,
-        },
-        Mark::Atom => {
-            let n = count_words(words::rest(s, i));
-            Next {
-                event: Event::Holds(key, n),
-                place: place,
-            }
-        }
-    }
-}
-
-// The event at the front of s, a line's bytes from the place `from` on.
-fn front(s: &[u8], from: usize) -> Next
-    requires { Placed from s.now }
-    ensures { result ≡ next_from from (front_of s.now) }
+// The event at the front of s.
+pub fn front(s: &[u8]) -> Seen
+    ensures { result ≡ front_of s.now }
 {
     if s.len() <= 1 {
-        return Next {
+        return Seen {
             event: Event::End,
-            place: from,
+            taken: 0,
         };
     }
-    let head = head_of(words::byte_at(s, 0));
-    match head {
-        Head::Word(mark) => word_front(s, mark, from),
-        Head::Number => number_at(s, from),
-        Head::Step => {
-            let place = from + skip(s, 1);
-            Next {
-                event: Event::Step,
-                place: place,
-            }
+    let b = words::byte_at(s, 0);
+    if words::letter(b) {
+        let w = word_at(s, 0);
+        let key = w.key;
+        return Seen {
+            event: Event::Name(key),
+            taken: w.place,
+        };
+    }
+    if words::digit(b) {
+        return number_at(s);
+    }
+    if b == b'?' {
+        let w = word_at(s, 1);
+        let key = w.key;
+        return Seen {
+            event: Event::Variable(key),
+            taken: w.place,
+        };
+    }
+    if b == b'!' {
+        let w = word_at(s, 1);
+        let key = w.key;
+        return Seen {
+            event: Event::Parameter(key),
+            taken: w.place,
+        };
+    }
+    if b == b'%' {
+        let w = word_at(s, 1);
+        let key = w.key;
+        return Seen {
+            event: Event::Minimum(key),
+            taken: w.place,
+        };
+    }
+    if b == b'(' {
+        if is_if(s) {
+            return atom_at(s, 4);
         }
-        Head::End => Next {
-            event: Event::End,
-            place: from,
-        },
+        return atom_at(s, 0);
+    }
+    if b == b')' {
+        let place = skip(s, 1);
+        return Seen {
+            event: Event::Step,
+            taken: place,
+        };
+    }
+    Seen {
+        event: Event::End,
+        taken: 0,
     }
 }
 
@@ -322,7 +264,13 @@ pub fn next_event(s: &[u8], i: usize) -> Next
     requires { i ≤ length s.now }
     ensures { result ≡ next_at s.now i }
 {
-    front(&s[i..], i)
+    let seen = front(&s[i..]);
+    let event = seen.event;
+    let place = i + seen.taken;
+    Next {
+        event: event,
+        place: place,
+    }
 }
 
 // Whether the line ends here.

@@ -19,7 +19,7 @@ use words::Key;
 
 // How many objects there are, 0 before an accepted (objects n), and how many facts; how many (did ..) lines were accepted since they began, and the total of the
 // rewards met.
-#[derive(Drop)]
+#[derive(Clone, Copy)]
 pub struct Live {
     pub objects: u64,
     pub facts: usize,
@@ -28,7 +28,7 @@ pub struct Live {
 }
 
 // What a line of the state answers: the numbers then, or why it is refused.
-#[derive(Drop)]
+#[derive(Clone, Copy)]
 pub enum Told {
     Done(Live),
     Refused(Refusal),
@@ -188,7 +188,7 @@ pub fn place(table: &[u64], n: Counts, state: &mut [u64], live: Live, key: Key, 
 }
 
 // The objects of a (true p o ..): how many, and whether each is one of the state.
-#[derive(Drop)]
+#[derive(Clone, Copy)]
 pub struct Tuple {
     pub count: u64,
     pub within: bool,

@@ -22,7 +22,7 @@ ghost use Rattle.forms.specs.Form.{
 use words::Took;
 
 // The sorts of single words.
-#[derive(Drop)]
+#[derive(Clone, Copy)]
 pub enum Sort {
     Name,
     Variable,

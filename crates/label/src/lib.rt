@@ -8,7 +8,7 @@ ghost use Rattle.label.specs.Renamings.{placed, mapped, moved, renamed};
 ghost use Rattle.label.specs.Callers.{ends_at, Packable, Mappable, Movable, Replaced};
 
 // What a term is, by its number.
-#[derive(Drop)]
+#[derive(Clone, Copy)]
 pub enum Kind {
     Constant,
     Parameter,
@@ -17,7 +17,7 @@ pub enum Kind {
     None,
 }
 
-#[derive(Drop)]
+#[derive(Clone, Copy)]
 pub struct Term {
     pub number: u64,
 }
@@ -106,7 +106,7 @@ impl Term {
 }
 
 // A predicate and its six places, unused ones 0.
-#[derive(Drop)]
+#[derive(Clone, Copy)]
 pub struct Atom {
     pub predicate: u64,
     pub first: u64,
@@ -118,13 +118,13 @@ pub struct Atom {
 }
 
 // An atom as one number.
-#[derive(Drop)]
+#[derive(Clone, Copy)]
 pub struct Label {
     pub packed: u64,
 }
 
 // What an atom asks: t = t is plain truth, everything else the test of a label.
-#[derive(Drop)]
+#[derive(Clone, Copy)]
 pub enum Test {
     Always,
     Is(Label),

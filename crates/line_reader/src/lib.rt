@@ -10,7 +10,7 @@ use text::{Kind, Shape};
 use words::{Key, Took};
 
 // A key word by its key, the kind of the line that it begins, and the shape of what stands behind it.
-#[derive(Drop)]
+#[derive(Clone, Copy)]
 pub struct Keyword {
     pub key: Key,
     pub kind: Kind,

@@ -46,7 +46,7 @@ pub fn open(arities: &mut [u64], state: &mut [u64]) -> Numbers
 }
 
 // Whether a line stands where it may, or why it is refused.
-#[derive(Drop)]
+#[derive(Clone, Copy)]
 enum Placed {
     Done,
     Refused(Refusal),

@@ -62,7 +62,7 @@ const HASH_FACTOR: u64 = 40503;
 const HASH_STEP: u64 = 256;
 
 // What the search answers: a match; no match, and the variables that this depends on, as bits; or too many failures for a store without rows.
-#[derive(Drop)]
+#[derive(Clone, Copy)]
 enum Answer {
     Found,
     Failed(u64),
@@ -70,7 +70,7 @@ enum Answer {
 }
 
 // What the places of a literal may become: those of a label, those of an equality's label turned round, a term twice, or nothing.
-#[derive(Drop)]
+#[derive(Clone, Copy)]
 enum Way {
     Straight(u64),
     Turned(u64),
@@ -748,7 +748,7 @@ fn match_part(ord: &[u64], into: &[u64], tab: &mut [u64], theta: &mut [u64]) -> 
 }
 
 // The literal to be taken next, and its rank.
-#[derive(Drop)]
+#[derive(Clone, Copy)]
 struct Pick {
     at: usize,
     rank: u64,

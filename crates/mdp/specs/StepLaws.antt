@@ -32,7 +32,7 @@ use Rattle.cutting.specs.declared.Cut.TheVariants.{Done as CutDone, Refused as C
 use Rattle.cutting.specs.Cut.{cut_diagram, is_true_edge, diagram_answer as cut_answer}
 use Rattle.mdp.specs.Model.{Variant, Action, Model, scale}
 use Rattle.mdp.specs.Backup.{combined, variants_sum, actions_best, row_of_calls, highest_scale, most_steps, scale_ends, backup}
-use Rattle.mdp.specs.Runs.{Held, cut_outcome, held_with_lem}
+use Rattle.mdp.specs.Runs.{Held, cut_outcome, held_with}
 use Rattle.mdp.specs.CallLaws.{each_within}
 
 -- ===== Combination and freeing =====
@@ -112,7 +112,7 @@ module _ (ar : List ℕ) (d : Diagram) where
   cut-refused r h = rw h
 
 -- what a call gives, read back
-pub held_with_lem : (k : ℕ) (o : Outcome Diagram) {h : Held} → held_with_lem k o ≡ ok h → (o ≡ ok h.diagram) × (h.steps ≡ k)
+pub held_with_lem : (k : ℕ) (o : Outcome Diagram) {h : Held} → held_with k o ≡ ok h → (o ≡ ok h.diagram) × (h.steps ≡ k)
 held_with_lem k (ok d) {h} e =
     let q : ◌≡◌ {A = Held} (record { diagram = d; steps = k }) h = cc in
     (ap (λ (g : Held). ok g.diagram) q, sym (ap (λ (g : Held). g.steps) q))

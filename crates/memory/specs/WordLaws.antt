@@ -6,10 +6,11 @@ use Rattle.text.specs.declared.Kind.{Kind}
 use Rattle.text.specs.Line.{keyword, words_bytes}
 use Rattle.events.specs.declared.Event.{Event}
 use Rattle.events.specs.declared.Event.TheVariants.{Name, Variable, Parameter, Minimum, Number, Equal, Holds, Step, End}
+use Rattle.events.specs.declared.Seen.{Seen}
 use Rattle.events.specs.declared.Next.{Next}
 use Rattle.events.specs.Events.{first_word}
 use Rattle.events.specs.Inner.{next_at}
-use Rattle.events.specs.Front.{Seen, is_if, atom_front, number_front, front_of, is_end, events_of}
+use Rattle.events.specs.Front.{is_if, atom_front, number_front, front_of, is_end, events_of}
 use Rattle.events.specs.FrontLaws.{next-end, next_more, next-moves}
 use Rattle.events.specs.Contents.{word_at}
 use Rattle.session.specs.Replies.{words_of}

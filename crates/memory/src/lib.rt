@@ -12,7 +12,7 @@ use planner::RunNumbers;
 use session::Part;
 
 // A session's numbers: the part of the text, which single forms were accepted, and how much of each lent table counts.
-#[derive(Drop)]
+#[derive(Clone, Copy)]
 pub struct Numbers {
     pub part: Part,
     pub total: bool,
@@ -25,7 +25,7 @@ pub struct Numbers {
 }
 
 // The numbers behind a line, and what the line is answered.
-#[derive(Drop)]
+#[derive(Clone, Copy)]
 pub struct Said {
     pub numbers: Numbers,
     pub answer: Answer,

@@ -1,7 +1,7 @@
 // A model in lent words: its numbers, its listings one after another, and a table of where they stand. Crate restoring tests words for one.
 
 // A model's numbers. The reward's listing has `reward_words` words from `reward_start` on; `words` is how many words the listings have in all.
-#[derive(Drop)]
+#[derive(Clone, Copy)]
 pub struct Head {
     pub total: u64,
     pub numerator: u64,

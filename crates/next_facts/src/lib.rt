@@ -16,7 +16,7 @@ use label::{Atom, Label, Term};
 use state::FACT_WORDS;
 
 // Rows of facts, or more than a state in hand may have.
-#[derive(Drop)]
+#[derive(Clone, Copy)]
 pub enum Facts {
     Rows(usize),
     Many,

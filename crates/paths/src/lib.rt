@@ -16,7 +16,7 @@ pub const PATHS: usize = 256;
 const MANY: u64 = PATHS as u64 + 1;
 
 // A place on a path: a row, which of its paths, and the literal that led to it.
-#[derive(Drop)]
+#[derive(Clone, Copy)]
 struct Here {
     row: usize,
     rest: u64,

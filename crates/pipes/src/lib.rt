@@ -5,7 +5,7 @@ ghost use Rattle.pipes.specs.Tally.{started, is_open, is_ended, is_unread, count
 use libc::{STDERR_FILENO, STDIN_FILENO, STDOUT_FILENO};
 
 // Whether input and output go on; or the input has ended, a read failed, a write failed, or more bytes were read than a number counts.
-#[derive(Drop)]
+#[derive(Clone, Copy)]
 pub enum Flow {
     Open,
     Ended,
@@ -15,7 +15,7 @@ pub enum Flow {
 }
 
 // The bytes read and written, those that the last read put in place, and how it goes on.
-#[derive(Drop)]
+#[derive(Clone, Copy)]
 pub struct Tally {
     read: u64,
     written: u64,

@@ -23,14 +23,14 @@ const PACK_BASE: usize = 65536;
 const FULL: usize = 0;
 
 // The number of a pair in the plan and of the pairs there, or that they are too many.
-#[derive(Drop)]
+#[derive(Clone, Copy)]
 pub enum Went {
     To(usize, usize),
     Full,
 }
 
 // The rows of a pair's two successors: (hi, hj) on high, (li, lj) on low.
-#[derive(Drop)]
+#[derive(Clone, Copy)]
 pub struct Ways {
     pub hi: usize,
     pub hj: usize,

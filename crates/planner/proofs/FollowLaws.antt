@@ -24,14 +24,12 @@ module _ {ar out : List ℕ} {n : ℕ} (s : BufferListing ar n out) (op : Operat
   folded-refused h = refused-then (λ q. combined op names ar (diagram_of (take (n * 3) out)) q) x h e
 
   module _ {m : ℕ} (h : r ≡ Rows m) where
-    pub folded-able : result_words ≤ length out → {j : ℕ} → result_words ≤ j → {spare : List ℕ} → length spare ≡ j → {k : ℕ} → space_words ≤ k → {work : List ℕ} → length work ≡ k
-        → Folding ar out n (take (m * 3) part) spare work
-    folded-able room spared long free same = record {
+    pub folded-able : result_words ≤ length out → {k : ℕ} → space_words ≤ k → {work : List ℕ} → length work ≡ k → Folding ar out n (take (m * 3) part) work
+    folded-able room free same = record {
       first = s.listing;
       second = (x.result m h).listing;
       inside = s.room;
       buffer-room = room;
-      spare-room = omega (arith, long, spared);
       work-room = omega (arith, same, free);
     }
 

@@ -25,24 +25,9 @@ use Rattle.steps.specs.declared.Step.TheVariants.{Rows, Refused}
 use Rattle.steps.specs.Steps.{Given, Begun, BufferListing}
 use Rattle.planner.specs.Parts.{variant_added, freed_up, action_value, action_tried}
 use Rattle.planner.specs.PartLaws.{many-every, sum_more, best-more, sum_fits}
-use Rattle.planner.specs.Tasks.{VariantTask, Scratch, ValueTask, ActionTask, FreeUp}
+use Rattle.planner.specs.Tasks.{VariantTask, ValueTask, ActionTask, FreeUp}
 use Rattle.steps.specs.GivenLaws.{given-same, refused-then, done-then}
 use Rattle.steps.specs.FoldLaws.{Folded, folded_start, folded-begins, folded-stops, folded_on, folded-end}
-
--- ===== Lent buffers =====
-
-pub room_next : {k n : ℕ} → result_words ≤ k → n ≡ k → result_words ≤ n
-room_next h e = omega (arith, h, e)
-
-pub room-fresh : (n : ℕ) → result_words ≤ n → result_words ≤ length (replicate {A = ℕ} n 0)
-room-fresh n h = omega (arith, length-replicate {A = ℕ} n 0)
-
-pub scratch-next : {product regressed weighted product' regressed' weighted' : List ℕ} → Scratch product regressed weighted → length product' ≡ length product
-    → length regressed' ≡ length regressed → length weighted' ≡ length weighted → Scratch product' regressed' weighted'
-scratch-next s p q r = record { product-room = room_next s.product-room p; regressed-room = room_next s.regressed-room q; weighted-room = room_next s.weighted-room r }
-
-pub scratch-fresh : (n : ℕ) → result_words ≤ n → Scratch (replicate n 0) (replicate n 0) (replicate n 0)
-scratch-fresh n h = record { product-room = room-fresh n h; regressed-room = room-fresh n h; weighted-room = room-fresh n h }
 
 -- ===== The sum over the variants =====
 
@@ -54,8 +39,8 @@ pub record Summing (ar listings table : List ℕ) (a g : ℕ) (value out : List 
 pub value-next : {ar value : List ℕ} {g : ℕ} {out work out' work' : List ℕ} → ValueTask ar value g out work → length out' ≡ length out → length work' ≡ length work → ValueTask ar value g out' work'
 value-next t p q = record { value-listing = t.value-listing; within = t.within; few = t.few; out-room = omega (arith, p, t.out-room); work-room = omega (arith, q, t.work-room) }
 
-pub value-into : {ar value : List ℕ} {g : ℕ} {out work out' : List ℕ} → ValueTask ar value g out work → result_words ≤ length out' → ValueTask ar value g out' work
-value-into t room = record { value-listing = t.value-listing; within = t.within; few = t.few; out-room = room; work-room = t.work-room }
+pub value-fresh : {ar value : List ℕ} {g : ℕ} {out work : List ℕ} → ValueTask ar value g out work → (n : ℕ) → result_words ≤ n → ValueTask ar value g (replicate n 0) work
+value-fresh t n h = record { value-listing = t.value-listing; within = t.within; few = t.few; out-room = omega (arith, length-replicate {A = ℕ} n 0); work-room = t.work-room }
 
 module _ {ar listings table : List ℕ} {a : ℕ} (t : ActionTask ar listings table a) {value : List ℕ} {g : ℕ} {out₀ work₀ : List ℕ} (u : ValueTask ar value g out₀ work₀) where
   abbrev F : ℕ → Variant
@@ -130,14 +115,14 @@ module _ {ar listings table : List ℕ} {a : ℕ} (t : ActionTask ar listings ta
     action-stops h = refused-then (λ q. freed_up ar (action_at listings table a).count q) x h action-is
 
     module _ {n : ℕ} (h : r ≡ Rows n) where
-      pub action-freeup : {out : List ℕ} → result_words ≤ length out → FreeUp ar (take (n * 3) sum) (get_or table (a * action_words) 0) out
-      action-freeup {out} room = subst (λ (c : ℕ). FreeUp ar (take (n * 3) sum) c out) count-is (record {
+      pub action-freeup : FreeUp ar (take (n * 3) sum) (get_or table (a * action_words) 0) out₀
+      action-freeup = subst (λ (c : ℕ). FreeUp ar (take (n * 3) sum) c out₀) count-is (record {
         listing = (x.result n h).listing;
         few = t.good.few;
         within = ((sum_fits ar (is-listing-good ar value u.value-listing).arities g u.few (diagram_of value)
             (record { listed = is-listing-good ar value u.value-listing; within = u.within }) (action_at listings table a) t.good
             ).given (diagram_of (take (n * 3) sum)) (x.result n h).is).within;
-        out-room = room;
+        out-room = u.out-room;
       })
 
       pub action-given : {q : Step} {out' : List ℕ} → Given ar (freed_up ar (get_or table (a * action_words) 0) (diagram_of (take (n * 3) sum))) q out' → Given ar A q out'

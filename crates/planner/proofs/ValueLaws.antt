@@ -3,7 +3,7 @@ use mathlib.Core.Path.{◌≡◌, refl, sym, ap, subst, ◌∙◌}
 use mathlib.Core.List.{List}
 use Prim.Native.Nat.{ℕ, ◌*◌, ◌≤◌}
 use native.Mathlib.Omega.{arith}
-use lib.ListN.{length, take, replicate}
+use lib.ListN.{length, take, replicate, length-replicate}
 use lib.Seq.{length-take-le}
 use Rattle.refusal.specs.declared.Refusal.{Refusal}
 use Rattle.refusal.specs.Outcome.{Outcome, refused, and_then, Accepted}
@@ -24,7 +24,6 @@ use Rattle.steps.specs.Steps.{step_as, Given, Wrote, Operands}
 use Rattle.planner.specs.Tasks.{ValueTask, RewardTask, Standing}
 use Rattle.steps.specs.GivenLaws.{step-refused}
 use Rattle.planner.proofs.FollowLaws.{first_done, both-done, both-operands}
-use Rattle.planner.proofs.SumLaws.{room-fresh}
 
 pub wrote-refused : {ar : List ℕ} {o : Outcome Diagram} {e : Refusal} {out : List ℕ} → o ≡ refused e → Wrote ar o (Refused e) out out
 wrote-refused {ar} {o} {e} {out} h = record {
@@ -53,16 +52,16 @@ module _ {ar listings table : List ℕ} {h : Head} (t : Laid ar listings table h
     value-listing = u.listing;
     within = u.within;
     few = numerator-small t;
-    out-room = room-fresh n k;
+    out-room = omega (arith, length-replicate {A = ℕ} n 0);
     work-room = u.work-room;
   }
 
-  pub reward-task : {product : List ℕ} → result_words ≤ length product → scale ≤ highest_value → {work' : List ℕ} → length work' ≡ length work → RewardTask ar listings h scale product work'
-  reward-task room few e = record {
+  pub reward-task : (n : ℕ) → result_words ≤ n → scale ≤ highest_value → {work' : List ℕ} → length work' ≡ length work → RewardTask ar listings h scale (replicate n 0) work'
+  reward-task n k few e = record {
     inside = t.inside;
     reward = t.reward;
     few = few;
-    out-room = room;
+    out-room = omega (arith, length-replicate {A = ℕ} n 0);
     work-room = omega (arith, e, u.work-room);
   }
 

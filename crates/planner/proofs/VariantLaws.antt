@@ -3,7 +3,7 @@ use mathlib.Core.Path.{◌≡◌, refl, sym, ap, subst, ◌∙◌}
 use mathlib.Core.List.{List, ◌++◌}
 use Prim.Native.Nat.{ℕ, ◌*◌, ◌≤◌}
 use native.Mathlib.Omega.{arith}
-use lib.ListN.{length, take, drop}
+use lib.ListN.{length, take, drop, replicate, length-replicate}
 use Rattle.refusal.specs.declared.Refusal.{Refusal}
 use Rattle.refusal.specs.Outcome.{Outcome, ok, refused, and_then, Accepted}
 use Rattle.refusal.specs.OutcomeLaws.{accepted-mono}
@@ -91,11 +91,18 @@ module _ {ar listings table : List ℕ} {place g : ℕ} {out work : List ℕ} (t
 -- ===== Their product =====
 
 module _ {ar listings table : List ℕ} {place : ℕ} {value out work : List ℕ} (t : VariantTask ar listings table place value out work) where
-  pub task-into : {out' : List ℕ} → result_words ≤ length out' → VariantTask ar listings table place value out' work
-  task-into room = record { laid = t.laid; inside = t.inside; truths = t.truths; value-listing = t.value-listing; out-room = room; work-room = t.work-room }
+  pub task-fresh : (n : ℕ) → result_words ≤ n → VariantTask ar listings table place value (replicate n 0) work
+  task-fresh n h = record {
+    laid = t.laid;
+    inside = t.inside;
+    truths = t.truths;
+    value-listing = t.value-listing;
+    out-room = omega (arith, length-replicate {A = ℕ} n 0);
+    work-room = t.work-room;
+  }
 
-  pub task-weight : {g : ℕ} {out' : List ℕ} → g ≤ highest_value → result_words ≤ length out' → {work' : List ℕ} → length work' ≡ length work → WeightTask ar listings table place g out' work'
-  task-weight few room e = record { laid = t.laid; inside = t.inside; few = few; out-room = room; work-room = omega (arith, e, t.work-room) }
+  pub task-weight : (n g : ℕ) → result_words ≤ n → g ≤ highest_value → {work' : List ℕ} → length work' ≡ length work → WeightTask ar listings table place g (replicate n 0) work'
+  task-weight n g h few e = record { laid = t.laid; inside = t.inside; few = few; out-room = omega (arith, length-replicate {A = ℕ} n 0); work-room = omega (arith, e, t.work-room) }
 
   module _ (g : ℕ) where
     abbrev R : Outcome Diagram

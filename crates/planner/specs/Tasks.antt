@@ -36,12 +36,6 @@ pub record VariantTask (ar listings table : List ℕ) (place : ℕ) (value out w
   pub out-room : result_words ≤ length out
   pub work-room : space_words ≤ length work
 
--- room for a variant's product and for the two that it is made of
-pub record Scratch (product regressed weighted : List ℕ) : Type 0 where
-  pub product-room : result_words ≤ length product
-  pub regressed-room : result_words ≤ length regressed
-  pub weighted-room : result_words ≤ length weighted
-
 -- the weight of the variant at a place of the table, and the value of a leaf
 pub record WeightTask (ar listings table : List ℕ) (place g : ℕ) (out work : List ℕ) : Type 0 where
   pub laid : LaidVariant ar listings table place

@@ -1,6 +1,6 @@
 // Backups on models in lent words. What they are stands in crate mdp and in specs/.
-ghost use Rattle.std.specs.Prelude.{◌≡◌, ◌*◌, ◌≤◌, length, take};
-ghost use Rattle.diagram.specs.Sizes.{highest_value, result_words};
+ghost use Rattle.std.specs.Prelude.{◌≡◌, ◌*◌, ◌≤◌, take};
+ghost use Rattle.diagram.specs.Sizes.{highest_value};
 ghost use Rattle.diagram.specs.Diagram.{leaf};
 ghost use Rattle.diagram.specs.Listing.{diagram_of};
 ghost use Rattle.apply.specs.declared.Operation.TheVariants.{Product};
@@ -13,7 +13,7 @@ ghost use Rattle.planner.specs.Inner.{Takeable, Taken};
 ghost use Rattle.planner.specs.Parts.{variant_product, variant_added, freed_up, action_value, action_tried};
 ghost use Rattle.planner.specs.Backed.{scale_of, power_as, Numbers, Powered, BackedUp, backed_step};
 ghost use Rattle.steps.specs.Steps.{BufferListing, Given, Wrote};
-ghost use Rattle.planner.specs.Tasks.{regressed_step, freed_step, VariantTask, WeightTask, Scratch, ActionTask, ValueTask, FreeUp, RewardTask, Standing};
+ghost use Rattle.planner.specs.Tasks.{regressed_step, freed_step, VariantTask, WeightTask, ActionTask, ValueTask, FreeUp, RewardTask, Standing};
 
 use apply::Operation;
 use model::Head;
@@ -22,7 +22,7 @@ use regression::{Freed, Regressed};
 use steps::Step;
 
 // S^(k+1), or that it or k would pass its limit.
-#[derive(Drop)]
+#[derive(Clone, Copy)]
 pub enum Power {
     Next(u64),
     Ends,
@@ -83,7 +83,7 @@ fn weigh(
     steps::times_leaf(arities, &listings[start..end], g, out, work)
 }
 
-// The product of these two, names shared; they are made in `regressed` and `weighted`.
+// The product of these two, names shared.
 fn variant_product(
     arities: &[u64],
     listings: &[u64],
@@ -91,22 +91,20 @@ fn variant_product(
     place: usize,
     g: u64,
     value: &[u64],
-    regressed: &mut [u64],
-    weighted: &mut [u64],
     out: &mut [u64],
     work: &mut [u64],
 ) -> Step
     requires variant_task { VariantTask arities.now listings.now table.now place value.now out.old work.old }
     requires g_le_highest_value { g ≤ highest_value }
-    requires result_words_in_bounds { result_words ≤ length regressed.old }
-    requires result_words_in_bounds_2 { result_words ≤ length weighted.old }
     ensures { Given arities.now (variant_product arities.now g (diagram_of value.now) (variant_at listings.now table.now place)) result out.new }
 {
-    let a = regress_variant(arities, listings, table, place, value, regressed, work);
+    let mut regressed = [0u64; diagram::RESULT_WORDS];
+    let mut weighted = [0u64; diagram::RESULT_WORDS];
+    let a = regress_variant(arities, listings, table, place, value, &mut regressed, work);
     let Step::Rows(n) = a else {
         return a;
     };
-    let b = weigh(arities, listings, table, place, g, weighted, work);
+    let b = weigh(arities, listings, table, place, g, &mut weighted, work);
     let Step::Rows(m) = b else {
         return b;
     };
@@ -130,24 +128,28 @@ fn add_variant(
     value: &[u64],
     sum: &mut [u64],
     n: usize,
-    product: &mut [u64],
-    regressed: &mut [u64],
-    weighted: &mut [u64],
     work: &mut [u64],
 ) -> Step
     requires variant_task { VariantTask arities.now listings.now table.now place value.now sum.old work.old }
     requires g_le_highest_value { g ≤ highest_value }
     requires buffer_listing { BufferListing arities.now n sum.old }
-    requires scratch { Scratch product.old regressed.old weighted.old }
     ensures { Given arities.now (variant_added arities.now g (diagram_of value.now) (diagram_of (take (n * 3) sum.old)) (variant_at listings.now table.now place)) result sum.new }
 {
+    let mut product = [0u64; diagram::RESULT_WORDS];
     let a = variant_product(
-        arities, listings, table, place, g, value, regressed, weighted, product, work,
+        arities,
+        listings,
+        table,
+        place,
+        g,
+        value,
+        &mut product,
+        work,
     );
     let Step::Rows(m) = a else {
         return a;
     };
-    steps::add_apart(arities, sum, n, &product[..m * 3], regressed, work)
+    steps::add_apart(arities, sum, n, &product[..m * 3], work)
 }
 
 // The sum over the variants of an action, begun at leaf 0.
@@ -159,14 +161,10 @@ pub fn variants_sum(
     g: u64,
     value: &[u64],
     out: &mut [u64],
-    product: &mut [u64],
-    regressed: &mut [u64],
-    weighted: &mut [u64],
     work: &mut [u64],
 ) -> Step
     requires action_task { ActionTask arities.now listings.now table.now action }
     requires value_task { ValueTask arities.now value.now g out.old work.old }
-    requires scratch { Scratch product.old regressed.old weighted.old }
     ensures { Given arities.now (variants_sum arities.now g (diagram_of value.now) (leaf 0) (action_at listings.now table.now action).variants) result out.new }
 {
     let variants = table[action * model::ACTION_WORDS + 1] as usize;
@@ -174,9 +172,7 @@ pub fn variants_sum(
     let mut v = 0;
     while v < variants {
         let place = action * model::ACTION_WORDS + 2 + v * model::VARIANT_WORDS;
-        let r = add_variant(
-            arities, listings, table, place, g, value, out, n, product, regressed, weighted, work,
-        );
+        let r = add_variant(arities, listings, table, place, g, value, out, n, work);
         let Step::Rows(m) = r else {
             return r;
         };
@@ -209,7 +205,7 @@ fn free_up(arities: &[u64], words: &[u64], count: u64, out: &mut [u64]) -> Step
     Step::Rows(n)
 }
 
-// The sum over the variants of an action, freed and closed up in `product`.
+// The sum over the variants of an action, freed and closed up.
 fn action_value(
     arities: &[u64],
     listings: &[u64],
@@ -217,25 +213,20 @@ fn action_value(
     action: usize,
     g: u64,
     value: &[u64],
-    sum: &mut [u64],
-    product: &mut [u64],
-    regressed: &mut [u64],
-    weighted: &mut [u64],
+    out: &mut [u64],
     work: &mut [u64],
 ) -> Step
     requires action_task { ActionTask arities.now listings.now table.now action }
-    requires value_task { ValueTask arities.now value.now g sum.old work.old }
-    requires scratch { Scratch product.old regressed.old weighted.old }
-    ensures { Given arities.now (action_value arities.now g (diagram_of value.now) (action_at listings.now table.now action)) result product.new }
+    requires value_task { ValueTask arities.now value.now g out.old work.old }
+    ensures { Given arities.now (action_value arities.now g (diagram_of value.now) (action_at listings.now table.now action)) result out.new }
 {
-    let a = variants_sum(
-        arities, listings, table, action, g, value, sum, product, regressed, weighted, work,
-    );
+    let mut sum = [0u64; diagram::RESULT_WORDS];
+    let a = variants_sum(arities, listings, table, action, g, value, &mut sum, work);
     let Step::Rows(n) = a else {
         return a;
     };
     let count = table[action * model::ACTION_WORDS];
-    free_up(arities, &sum[..n * 3], count, product)
+    free_up(arities, &sum[..n * 3], count, out)
 }
 
 // Takes the max of the best so far, which the first n rows of the buffer are, and an action's value, names shared.
@@ -248,34 +239,19 @@ fn try_action(
     value: &[u64],
     best: &mut [u64],
     n: usize,
-    sum: &mut [u64],
-    product: &mut [u64],
-    regressed: &mut [u64],
-    weighted: &mut [u64],
     work: &mut [u64],
 ) -> Step
     requires action_task { ActionTask arities.now listings.now table.now action }
     requires value_task { ValueTask arities.now value.now g best.old work.old }
     requires buffer_listing { BufferListing arities.now n best.old }
-    requires result_words_in_bounds { result_words ≤ length sum.old }
-    requires scratch { Scratch product.old regressed.old weighted.old }
     ensures { Given arities.now (action_tried arities.now g (diagram_of value.now) (diagram_of (take (n * 3) best.old)) (action_at listings.now table.now action)) result best.new }
 {
-    let a = action_value(
-        arities, listings, table, action, g, value, sum, product, regressed, weighted, work,
-    );
+    let mut gain = [0u64; diagram::RESULT_WORDS];
+    let a = action_value(arities, listings, table, action, g, value, &mut gain, work);
     let Step::Rows(m) = a else {
         return a;
     };
-    steps::fold_shared(
-        Operation::Max,
-        arities,
-        best,
-        n,
-        &product[..m * 3],
-        sum,
-        work,
-    )
+    steps::fold_shared(Operation::Max, arities, best, n, &gain[..m * 3], work)
 }
 
 // The best over the actions, begun at leaf 0.
@@ -286,16 +262,10 @@ fn actions_best(
     head: Head,
     value: &[u64],
     out: &mut [u64],
-    sum: &mut [u64],
-    product: &mut [u64],
-    regressed: &mut [u64],
-    weighted: &mut [u64],
     work: &mut [u64],
 ) -> Step
     requires laid { Laid arities.now listings.now table.now head }
     requires value_task { ValueTask arities.now value.now head.numerator out.old work.old }
-    requires result_words_in_bounds { result_words ≤ length sum.old }
-    requires scratch { Scratch product.old regressed.old weighted.old }
     ensures { Given arities.now (actions_best arities.now head.numerator (diagram_of value.now) (leaf 0) (model_of arities.now listings.now table.now head).actions) result out.new }
 {
     let actions = head.actions;
@@ -303,9 +273,7 @@ fn actions_best(
     let mut n = steps::begin(out);
     let mut a = 0;
     while a < actions {
-        let r = try_action(
-            arities, listings, table, a, g, value, out, n, sum, product, regressed, weighted, work,
-        );
+        let r = try_action(arities, listings, table, a, g, value, out, n, work);
         let Step::Rows(m) = r else {
             return r;
         };
@@ -333,7 +301,6 @@ fn scale_reward(
 }
 
 // The calls of a backup, once 12 is judged: the best over the actions, then the reward times leaf S^(k+1), then the best plus that, apart.
-// Their result buffers are made here, once, and lent.
 fn replace_value(
     arities: &[u64],
     listings: &[u64],
@@ -350,10 +317,7 @@ fn replace_value(
     ensures { Wrote arities.now (row_of_calls (model_of arities.now listings.now table.now head) scale (diagram_of (take (rows * 3) value.old))) result value.old value.new }
 {
     let mut best = [0u64; diagram::RESULT_WORDS];
-    let mut sum = [0u64; diagram::RESULT_WORDS];
-    let mut product = [0u64; diagram::RESULT_WORDS];
-    let mut regressed = [0u64; diagram::RESULT_WORDS];
-    let mut weighted = [0u64; diagram::RESULT_WORDS];
+    let mut reward = [0u64; diagram::RESULT_WORDS];
     let a = actions_best(
         arities,
         listings,
@@ -361,24 +325,20 @@ fn replace_value(
         head,
         &value[..rows * 3],
         &mut best,
-        &mut sum,
-        &mut product,
-        &mut regressed,
-        &mut weighted,
         work,
     );
     let Step::Rows(n) = a else {
         return a;
     };
-    let b = scale_reward(arities, listings, head, scale, &mut product, work);
+    let b = scale_reward(arities, listings, head, scale, &mut reward, work);
     let Step::Rows(m) = b else {
         return b;
     };
-    steps::sum_apart(arities, &best[..n * 3], &product[..m * 3], value, work)
+    steps::sum_apart(arities, &best[..n * 3], &reward[..m * 3], value, work)
 }
 
 // What a backup answers: the rows of the new value and S^(k+1), or the first refusal met.
-#[derive(Drop)]
+#[derive(Clone, Copy)]
 pub enum Backed {
     Done(usize, u64),
     Refused(Refusal),
@@ -445,7 +405,7 @@ pub fn backup(
 }
 
 // What a run holds beside the value's listing: its rows, k and S^k.
-#[derive(Drop)]
+#[derive(Clone, Copy)]
 pub struct RunNumbers {
     pub rows: usize,
     pub steps: u64,

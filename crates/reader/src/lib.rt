@@ -48,14 +48,14 @@ pub const VARIABLE_WORDS: usize = PART_WORDS * 2;
 const LETTER_V: u8 = 118;
 
 // How many variables of each kind are in the table.
-#[derive(Drop)]
+#[derive(Clone, Copy)]
 pub struct Known {
     pub variables: usize,
     pub minimums: usize,
 }
 
 // How many names of each table count, and which variables may be named.
-#[derive(Drop)]
+#[derive(Clone, Copy)]
 pub struct Scope {
     pub constants: usize,
     pub predicates: usize,
@@ -65,7 +65,7 @@ pub struct Scope {
 
 // The atom under way as a label, its unfilled places 0, how many of them are filled, how many terms are due; how many operations are
 // written.
-#[derive(Drop)]
+#[derive(Clone, Copy)]
 struct Progress {
     label: Label,
     filled: usize,
@@ -74,34 +74,34 @@ struct Progress {
 }
 
 // A term's number, or the refusal.
-#[derive(Drop)]
+#[derive(Clone, Copy)]
 enum Resolved {
     Number(u64),
     Refused(Refusal),
 }
 
-#[derive(Drop)]
+#[derive(Clone, Copy)]
 enum Stepped {
     Done(Progress),
     Refused(Refusal),
 }
 
 // How many operations and how many variables a line's words come to, or the refusal.
-#[derive(Drop)]
+#[derive(Clone, Copy)]
 pub enum Read {
     Done(usize, Known),
     Refused(Refusal),
 }
 
 // The N of a variable's name that is written vN, or that it is another name.
-#[derive(Drop)]
+#[derive(Clone, Copy)]
 enum Numbered {
     Number(u64),
     Other,
 }
 
 // Two variables by ascending N, and the greater N.
-#[derive(Drop)]
+#[derive(Clone, Copy)]
 struct Pair {
     low: Key,
     high: Key,
@@ -109,21 +109,21 @@ struct Pair {
 }
 
 // How many variables are gathered, or that one is not written vN.
-#[derive(Drop)]
+#[derive(Clone, Copy)]
 enum Gathered {
     Count(usize),
     Other,
 }
 
 // The number of a head's predicate, or the refusal.
-#[derive(Drop)]
+#[derive(Clone, Copy)]
 pub enum Opened {
     Predicate(usize),
     Refused(Refusal),
 }
 
 // The place behind a head whose arguments are read, or the refusal.
-#[derive(Drop)]
+#[derive(Clone, Copy)]
 pub enum Headed {
     Arguments(usize),
     Refused(Refusal),

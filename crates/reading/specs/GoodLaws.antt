@@ -13,7 +13,7 @@ use Rattle.refusal.specs.declared.Refusal.TheVariants.{Name, Arity, Range, Unbou
 use Rattle.refusal.specs.Outcome.{Outcome, ok, refused, and_then}
 use Rattle.label.specs.Limits.{constant_count, first_parameter, parameter_count, first_variable, variable_count, first_minimum, minimum_count, term_base, predicate_count, equality, equality_arity}
 use Rattle.label.specs.Terms.{is_constant, is_parameter, is_variable, is_minimum, is_term}
-use Rattle.label.specs.Labels.{are_arities, place_fits, in_order_lem, atom_from, packed, unpacked, predicate_of, label_of, equates, test_of}
+use Rattle.label.specs.Labels.{are_arities, place_fits, in_order, atom_from, packed, unpacked, predicate_of, label_of, equates, test_of}
 use Rattle.label.specs.Renamings.{EachTerm, EachIn}
 use Rattle.label.specs.LabelLaws.{term-below, place-from, below-places, fits-atom, unpacked-packed, label-packed}
 use Rattle.label.specs.ArityLaws.{arity-two}
@@ -202,8 +202,8 @@ names-resolving σ f vs = record { each = each }
 
 -- labels
 
-in_order_lem : (x y : ℕ) → x < y → in_order_lem (atom_from equality (x ∷ y ∷ [])) ≡ true
-unfolding in_order_lem
+in_order_lem : (x y : ℕ) → x < y → in_order (atom_from equality (x ∷ y ∷ [])) ≡ true
+unfolding in_order
 in_order_lem x y h = rw (lt-ltb x y h)
 
 module _ (ar : List ℕ) (P : ℕ → Type 0) (w : (t : ℕ) → P t → is_term t ≡ true) where
@@ -238,7 +238,7 @@ module _ (ar : List ℕ) (P : ℕ → Type 0) (w : (t : ℕ) → P t → is_term
     unfolding predicate_of unpacked
     each_in = subst (λ (x : Atom). EachTerm P (get_or ar x.predicate 0) x) (sym (unpacked-packed (atom_from q us) places)) each-term
 
-    label-good : q < predicate_count → in_order_lem (atom_from q us) ≡ true → GoodTest ar P (label_of (atom_from q us))
+    label-good : q < predicate_count → in_order (atom_from q us) ≡ true → GoodTest ar P (label_of (atom_from q us))
     label-good h o = (
       label-packed ar (atom_from q us) places
           ∙ fits-atom ar (atom_from q us)
@@ -252,7 +252,7 @@ module _ (ar : List ℕ) (P : ℕ → Type 0) (w : (t : ℕ) → P t → is_term
 
     -- a declared predicate
     test_good : 0 < q → q < predicate_count → GoodTest ar P (test_of (atom_from q us))
-    unfolding test_of in_order_lem
+    unfolding test_of in_order
     test_good p h = rw (ne_eqb q equality (λ e. omega arith)) (label-good h (rw (ne_eqb q equality (λ e. omega arith))))
 
   -- equality: the smaller term first

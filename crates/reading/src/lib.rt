@@ -2,14 +2,14 @@
 use words::Key;
 
 // A variable is a maximum variable, ?name, or a minimum variable, %name.
-#[derive(Drop)]
+#[derive(Clone, Copy)]
 pub enum Kind {
     Maximum,
     Minimum,
 }
 
 // Which variables may be named: any, numbered as they come; none; those in the table.
-#[derive(Drop)]
+#[derive(Clone, Copy)]
 pub enum Binding {
     Any,
     None,
@@ -17,14 +17,14 @@ pub enum Binding {
 }
 
 // How the head of a (becomes) opens: an atom's name and its count of terms, or another word.
-#[derive(Drop)]
+#[derive(Clone, Copy)]
 pub enum Opening {
     Atom(Key, usize),
     Other,
 }
 
 // A word that should be a variable, or another word.
-#[derive(Drop)]
+#[derive(Clone, Copy)]
 pub enum Argument {
     Named(Key),
     Other,

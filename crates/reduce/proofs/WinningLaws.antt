@@ -15,7 +15,7 @@ use Rattle.label.specs.Limits.{predicate_count}
 use Rattle.label.specs.Labels.{are_arities}
 use Rattle.diagram.specs.Diagram.{Diagram}
 use Rattle.diagram.specs.Rows.{rows}
-use Rattle.diagram.specs.Words.{label_at, row_count_lem, up_to}
+use Rattle.diagram.specs.Words.{label_at, row_count, up_to}
 use Rattle.diagram.specs.WordLaws.{length-up_to, get_d_map}
 use Rattle.diagram.specs.Listing.{diagram_of}
 use Rattle.diagram.specs.Validity.{Valid, tree}
@@ -121,10 +121,10 @@ module _ {ar ws counts marks wins : List ℕ} {n m v all : ℕ} (g : Winnable ar
   all-some = omega (arith, g.power, self-power v)
 
   root_is : tree ws (n - 1) ≡ d
-  root_is = let e : n - 1 ≡ pred (row_count_lem ws) = omega (arith, g.whole, valid.some) in ap (tree ws) e ∙ sym (diagram-is ar ws valid)
+  root_is = let e : n - 1 ≡ pred (row_count ws) = omega (arith, g.whole, valid.some) in ap (tree ws) e ∙ sym (diagram-is ar ws valid)
 
   row_count_lem : length (rows d) ≡ n
-  row_count_lem = ap length (rows_are ar ws valid) ∙ length-map (up_to (row_count_lem ws)) (tree ws) ∙ length-up_to (row_count_lem ws) ∙ sym g.whole
+  row_count_lem = ap length (rows_are ar ws valid) ∙ length-map (up_to (row_count ws)) (tree ws) ∙ length-up_to (row_count ws) ∙ sym g.whole
 
   rows_few : n + 1 ≤ m * 2
   rows_few = omega (arith, rows-paths d, row_count_lem, ap (λ (x : Diagram). length (paths x)) root_is, g.routed.all)
@@ -141,7 +141,7 @@ module _ {ar ws counts marks wins : List ℕ} {n m v all : ℕ} (g : Winnable ar
       arities = omega (arith, arities-long valid.arities);
       rows = g.routed.rows.room;
       few = g.routed.rows.few;
-      labels = λ r l e. (branch_row ar ws (row_count_lem ws) (valid-rows ar ws valid) r (omega (arith, g.whole)) e).label;
+      labels = λ r l e. (branch_row ar ws (row_count ws) (valid-rows ar ws valid) r (omega (arith, g.whole)) e).label;
     };
     marked = omega (arith, g.used.whole);
     few = omega (arith, g.count, variables-few ar d);

@@ -2,7 +2,7 @@
 use refusal::Refusal;
 
 // What a reduction answers: how many rows are left, or why it is refused.
-#[derive(Drop)]
+#[derive(Clone, Copy)]
 pub enum Reduced {
     Done(usize),
     Refused(Refusal),

@@ -25,7 +25,7 @@ use truths::Verdict;
 use write::Listed;
 
 // What a row of a lent listing asks for: a leaf with its value, or the row step of its label with the rows of its children's results.
-#[derive(Drop)]
+#[derive(Clone, Copy)]
 pub enum Task {
     Leaf(u64),
     Branch(u64, usize, usize),

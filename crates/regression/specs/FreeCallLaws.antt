@@ -36,7 +36,7 @@ use Rattle.regression.specs.declared.Freed.TheVariants.{Refused}
 use Rattle.regression.specs.Parameters.{Within, Labels}
 use Rattle.regression.specs.ResultLaws.{label-terms}
 use Rattle.regression.specs.FreeingLaws.{within-freed}
-use Rattle.regression.specs.RegressCall.{any_occurs, freed_outcome, free_own_lem, free_outcome, free_answer, free_result}
+use Rattle.regression.specs.RegressCall.{any_occurs, freed_outcome, free_own, free_outcome, free_answer, free_result}
 use Rattle.regression.specs.RegressCallLaws.{any-quiet, quiet-any}
 
 -- the terms of a label, place by place
@@ -85,7 +85,7 @@ module _ (ar words : List ℕ) (count out_length work_length : ℕ) where
     unfolding free_outcome
     free-range h = rw (e, le-ltb out_length result_words room, le-ltb work_length space_words space, lt-ltb parameter_count count h)
 
-    pub free_own_lem : count ≤ parameter_count → free_outcome ar words count out_length work_length ≡ free_own_lem ar words count
+    pub free_own_lem : count ≤ parameter_count → free_outcome ar words count out_length work_length ≡ free_own ar words count
     unfolding free_outcome
     free_own_lem h = rw (e, le-ltb out_length result_words room, le-ltb work_length space_words space, le-ltb parameter_count count h)
 
@@ -97,8 +97,8 @@ free-accepted ar c d few h = rw (quiet-any ar d (first_minimum - c) c (λ u i j.
 
 -- without a parameter past the count 8 is left
 pub own-freed : (ar words : List ℕ) (count : ℕ) → any_occurs ar (diagram_of words) (first_parameter + count) (parameter_count - count) ≡ false
-    → free_own_lem ar words count ≡ freed_outcome ar count (diagram_of words)
-unfolding free_own_lem
+    → free_own ar words count ≡ freed_outcome ar count (diagram_of words)
+unfolding free_own
 own-freed ar words count e = rw e
 
 -- what an accepted call frees: no parameter past the count occurs, and no variable would pass the last of its kind
@@ -178,7 +178,7 @@ module _ (ar : List ℕ) (count : ℕ) (d : Diagram) (few : count ≤ parameter_
       go t (inr h) k l = h.1 l
 
 pub free-is : (ar words : List ℕ) (count out_length work_length : ℕ) → Accepted (IsFreed ar count (diagram_of words)) (free_outcome ar words count out_length work_length)
-unfolding free_outcome free_own_lem freed_outcome freed
+unfolding free_outcome free_own freed_outcome freed
 free-is ar words count out_length work_length =
     accepted-cond (not (is_listing ar words)) Listing _ (λ l.
     accepted-cond (ltb out_length result_words || ltb work_length space_words) Buffer _ (λ b.

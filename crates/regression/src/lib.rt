@@ -2,14 +2,14 @@
 use refusal::Refusal;
 
 // What a regression answers: the result's rows, or why it is refused.
-#[derive(Drop)]
+#[derive(Clone, Copy)]
 pub enum Regressed {
     Done(usize),
     Refused(Refusal),
 }
 
 // What freeing answers: the result's rows, or why it is refused.
-#[derive(Drop)]
+#[derive(Clone, Copy)]
 pub enum Freed {
     Done(usize),
     Refused(Refusal),

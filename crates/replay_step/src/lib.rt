@@ -17,7 +17,7 @@ use refusal::Refusal;
 use state::{FACT_WORDS, Valued};
 
 // What a line answers: how many facts the next state has, the count and the total; or the first refusal met.
-#[derive(Drop)]
+#[derive(Clone, Copy)]
 pub enum Stepped {
     Done(usize, u64, u64),
     Refused(Refusal),

@@ -29,7 +29,7 @@ use Rattle.forms.specs.Tree as T
 use Rattle.forms.specs.Tree.Atom.{equal as equality-of, holds}
 use Rattle.answers.specs.DigitLaws.{digits_number, digits_value}
 use Rattle.reading.specs.declared.Binding.TheVariants.{Any}
-use Rattle.reading.specs.Reading.{Environment, Met, constant_number_lem, met, number_in, variable_number, minimum_number}
+use Rattle.reading.specs.Reading.{Environment, Met, constant_number, met, number_in, variable_number, minimum_number}
 use Rattle.reading.specs.Inner.{Reach}
 use Rattle.reading.specs.Tree.{having, resolve_term, resolve_terms, resolve_atom, resolve_diagram}
 use Rattle.line_trees.specs.VariableLaws.{number-exact}
@@ -143,8 +143,8 @@ module _ (ar : List ℕ) (n : Tables) (v : Reach) (good : are_arities ar ≡ tru
   abbrev pub vs : Met
   vs = first_met v
 
-  constant_number_lem : (t : ℕ) → t < length n.constants → constant_number_lem (map key_of n.constants) (key_of (get_or n.constants t [])) ≡ ok t
-  unfolding constant_number_lem
+  constant_number_lem : (t : ℕ) → t < length n.constants → constant_number (map key_of n.constants) (key_of (get_or n.constants t [])) ≡ ok t
+  unfolding constant_number
   constant_number_lem t h =
       rw (among-name n.constants declared.constants-named declared.constants-differ t h, place-name n.constants declared.constants-named declared.constants-differ t h)
 

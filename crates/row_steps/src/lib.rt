@@ -17,7 +17,7 @@ use store::Formed;
 use table::Row;
 
 // What a step in the working space answers: the result's row and the rows then; or why it is refused, and the rows then.
-#[derive(Drop)]
+#[derive(Clone, Copy)]
 pub enum Stepped {
     Row(usize, usize),
     Refused(Refusal, usize),

@@ -26,7 +26,7 @@ use Rattle.mdp.specs.Model.{scale}
 use Rattle.answers.specs.declared.Answer.TheVariants as A
 use Rattle.text.specs.declared.Kind.TheVariants as K
 use Rattle.session.specs.Session.{Live, Session, refuse_if}
-use Rattle.session.specs.Running.{state_in, value_read_lem}
+use Rattle.session.specs.Running.{state_in, value_read}
 use Rattle.session.specs.Replies.{value_says, done}
 use Rattle.facts.specs.Words.{facts_base, index_base, index_words, part, live_of}
 use Rattle.facts.specs.WordLaws.{index-all}
@@ -64,8 +64,8 @@ valued_as (refused x) = Refused x
 
 -- 15 where it is judged
 value-reads : (ar ws : List ℕ) (l : Live) → is_listing ar ws ≡ true
-    → bound_answer ar ws l.objects l.constants l.facts [] ≡ valued_as (value_read_lem ar l (diagram_of ws))
-unfolding bound_answer value_read_lem state_in
+    → bound_answer ar ws l.objects l.constants l.facts [] ≡ valued_as (value_read ar l (diagram_of ws))
+unfolding bound_answer value_read state_in
 value-reads ar ws l i =
     last (is_too_large ar (state_in ar l) [] ws) (number (state_in ar l) [] (meaning ar (diagram_of ws)))
     ∙ ap (λ (xs : List ℕ). valued_as (refuse_if (is_too_large ar (state_in ar l) [] xs) Valuations (ok (number (state_in ar l) [] (meaning ar (diagram_of ws))))))
@@ -78,7 +78,7 @@ value-reads ar ws l i =
 module _ {s : List ℕ} {n : Numbers} {w : Memory} (r : Ready K.Value s n w) where
   lent_reads : {ps : List ℕ} → ps ≡ part w.state facts_base (n.live.facts * fact_words)
       → {q : Valued} → q ≡ bound_answer w.arities (take (n.held.rows * 3) w.value) n.live.objects (take constant_count w.state) ps []
-      → q ≡ valued_as (value_read_lem w.arities (live_of w.state n.live) (diagram_of (take (n.held.rows * 3) w.value)))
+      → q ≡ valued_as (value_read w.arities (live_of w.state n.live) (diagram_of (take (n.held.rows * 3) w.value)))
   unfolding live_of
   lent_reads e a =
       a
@@ -102,9 +102,9 @@ module _ (σ : Session) (number : ℕ) where
   same-session (refused x) = refl
 
 module _ {s : List ℕ} (number : ℕ) {n : Numbers} {w : Memory} (r : Ready K.Value s n w) {q : Valued}
-    (a : q ≡ valued_as (value_read_lem w.arities (live_of w.state n.live) (diagram_of (take (n.held.rows * 3) w.value)))) where
+    (a : q ≡ valued_as (value_read w.arities (live_of w.state n.live) (diagram_of (take (n.held.rows * 3) w.value)))) where
   abbrev O : Outcome ℕ
-  O = value_read_lem w.arities (live_of w.state n.live) (diagram_of (take (n.held.rows * 3) w.value))
+  O = value_read w.arities (live_of w.state n.live) (diagram_of (take (n.held.rows * 3) w.value))
 
   read-answers : {v : ℕ} → q ≡ Value v → Answers K.Value s number n w (record { numbers = n; answer = A.Value v n.held.steps n.held.power }) w
   unfolding session_of done

@@ -5,14 +5,14 @@ ghost use Rattle.session.specs.Place.{rule_of};
 use text::Kind;
 
 // The parts of a text: the model, and the run behind an accepted (start).
-#[derive(Drop)]
+#[derive(Clone, Copy)]
 pub enum Part {
     Model,
     Run,
 }
 
 // What a line of a kind needs in a part of the text.
-#[derive(Drop)]
+#[derive(Clone, Copy)]
 pub enum Rule {
     // not the grammar
     NoForm,

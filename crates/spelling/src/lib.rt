@@ -19,7 +19,7 @@ use answers::Put;
 use label::{Label, Term};
 
 // The bytes of a form, or that the reward line made of it would be too long: refusal 19.
-#[derive(Drop)]
+#[derive(Clone, Copy)]
 pub enum Measured {
     Bytes(usize),
     TooLong,

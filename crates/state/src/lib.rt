@@ -3,7 +3,7 @@ use label::Label;
 use refusal::Refusal;
 
 // What valuing answers: the number, or why there is none.
-#[derive(Drop)]
+#[derive(Clone, Copy)]
 pub enum Valued {
     Value(u64),
     Refused(Refusal),

@@ -175,7 +175,7 @@ result-long {ar} {o} {n} {out} r = sym (length-take-le (n * 3) out r.room)
 pub result-few : {ar : List ℕ} {o : Outcome Diagram} {n : ℕ} {out : List ℕ} → Result ar o n out → n * 3 ≤ result_words
 result-few {ar} {o} {n} {out} r = let v = listing-is-valid ar (take (n * 3) out) r.listing in omega (arith, v.whole, v.few, result-long r)
 
-pub folding-long : {ar buffer : List ℕ} {n : ℕ} {y spare work : List ℕ} → Folding ar buffer n y spare work → n * 3 ≡ length (take (n * 3) buffer)
+pub folding-long : {ar buffer : List ℕ} {n : ℕ} {y work : List ℕ} → Folding ar buffer n y work → n * 3 ≡ length (take (n * 3) buffer)
 folding-long {ar} {buffer} {n} f = sym (length-take-le (n * 3) buffer f.inside)
 
 module _ {ar : List ℕ} {o : Outcome Diagram} {r : Step} {out out' : List ℕ} (w : Wrote ar o r out out') where
@@ -188,7 +188,7 @@ module _ {ar : List ℕ} {o : Outcome Diagram} {r : Step} {out out' : List ℕ} 
     pub fold-there : m * 3 ≤ length out'
     fold-there = ((wrote-given w).result m e).room
 
-    pub fold-room : {buffer : List ℕ} {n : ℕ} {y spare work : List ℕ} → Folding ar buffer n y spare work → m * 3 ≤ length buffer
+    pub fold-room : {buffer : List ℕ} {n : ℕ} {y work : List ℕ} → Folding ar buffer n y work → m * 3 ≤ length buffer
     fold-room f = omega (arith, result-few ((wrote-given w).result m e), f.buffer-room)
 
     pub fold-given : (buffer : List ℕ) {buffer' : List ℕ} → buffer' ≡ take (m * 3) out' ++ drop (m * 3) buffer → Given ar o (Rows m) buffer'

@@ -65,11 +65,10 @@ pub record Scalable (ar x : List ℕ) (v : ℕ) (out work : List ℕ) : Type 0 w
   pub out-room : result_words ≤ length out
   pub work-room : space_words ≤ length work
 
--- the first n rows of a buffer are a listing, and so is y; the result is made in the spare words
-pub record Folding (ar buffer : List ℕ) (n : ℕ) (y spare work : List ℕ) : Type 0 where
+-- the first n rows of a buffer are a listing, and so is y
+pub record Folding (ar buffer : List ℕ) (n : ℕ) (y work : List ℕ) : Type 0 where
   pub first : is_listing ar (take (n * 3) buffer) ≡ true
   pub second : is_listing ar y ≡ true
   pub inside : n * 3 ≤ length buffer
   pub buffer-room : result_words ≤ length buffer
-  pub spare-room : result_words ≤ length spare
   pub work-room : space_words ≤ length work

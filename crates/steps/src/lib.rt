@@ -13,7 +13,7 @@ use label::Label;
 use refusal::Refusal;
 
 // What a row of calls answers: the result's rows, or the first refusal met.
-#[derive(Drop)]
+#[derive(Clone, Copy)]
 pub enum Step {
     Rows(usize),
     Refused(Refusal),
@@ -61,44 +61,38 @@ pub fn times_leaf(arities: &[u64], x: &[u64], v: u64, out: &mut [u64], work: &mu
     shared(Operation::Product, arities, x, &one, out, work)
 }
 
-// Adds y to the listing that the first n rows of the buffer are, names apart; the sum is made in `spare`.
-pub fn add_apart(
-    arities: &[u64],
-    buffer: &mut [u64],
-    n: usize,
-    y: &[u64],
-    spare: &mut [u64],
-    work: &mut [u64],
-) -> Step
-    requires { Folding arities.now buffer.old n y.now spare.old work.old }
+// Adds y to the listing that the first n rows of the buffer are, names apart.
+pub fn add_apart(arities: &[u64], buffer: &mut [u64], n: usize, y: &[u64], work: &mut [u64]) -> Step
+    requires { Folding arities.now buffer.old n y.now work.old }
     ensures { Given arities.now (combined Sum Apart arities.now (diagram_of (take (n * 3) buffer.old)) (diagram_of y.now)) result buffer.new }
 {
-    let r = sum_apart(arities, &buffer[..n * 3], y, spare, work);
+    let mut sum = [0u64; diagram::RESULT_WORDS];
+    let r = sum_apart(arities, &buffer[..n * 3], y, &mut sum, work);
     let Step::Rows(m) = r else {
         return r;
     };
-    write::copy(spare, m, buffer);
+    write::copy(&sum, m, buffer);
     r
 }
 
-// Combines the listing that the first n rows of the buffer are with y, names shared; the result is made in `spare` and replaces it.
+// Combines the listing that the first n rows of the buffer are with y, names shared; the result replaces it.
 pub fn fold_shared(
     op: Operation,
     arities: &[u64],
     buffer: &mut [u64],
     n: usize,
     y: &[u64],
-    spare: &mut [u64],
     work: &mut [u64],
 ) -> Step
-    requires { Folding arities.now buffer.old n y.now spare.old work.old }
+    requires { Folding arities.now buffer.old n y.now work.old }
     ensures { Given arities.now (combined op Shared arities.now (diagram_of (take (n * 3) buffer.old)) (diagram_of y.now)) result buffer.new }
 {
-    let r = shared(op, arities, &buffer[..n * 3], y, spare, work);
+    let mut result = [0u64; diagram::RESULT_WORDS];
+    let r = shared(op, arities, &buffer[..n * 3], y, &mut result, work);
     let Step::Rows(m) = r else {
         return r;
     };
-    write::copy(spare, m, buffer);
+    write::copy(&result, m, buffer);
     r
 }
 

@@ -11,7 +11,7 @@ use label::Label;
 use table::{Added, Row};
 
 // What forming a row answers: the row's number and the rows in the space then, or that there is no room.
-#[derive(Drop)]
+#[derive(Clone, Copy)]
 pub enum Formed {
     Row(usize, usize),
     Full,

@@ -9,7 +9,7 @@ const HALF: u64 = 4294967296;
 pub const BUCKETS: usize = 2048;
 
 // A row of a listing: label or leaf mark; true row or value; false row or 0.
-#[derive(Drop)]
+#[derive(Clone, Copy)]
 pub struct Row {
     pub label: u64,
     pub high: u64,
@@ -17,14 +17,14 @@ pub struct Row {
 }
 
 // Where a row was found.
-#[derive(Drop)]
+#[derive(Clone, Copy)]
 pub enum Found {
     At(usize),
     Nothing,
 }
 
 // What adding a row answers: the place where it stood, or stands now, or that there is no room.
-#[derive(Drop)]
+#[derive(Clone, Copy)]
 pub enum Added {
     Old(usize),
     New(usize),

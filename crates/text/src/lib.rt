@@ -2,7 +2,7 @@
 use forms::Sort;
 
 // The kinds of lines, and a line that is none.
-#[derive(Drop)]
+#[derive(Clone, Copy)]
 pub enum Kind {
     Constant,
     Predicate,
@@ -30,7 +30,7 @@ pub enum Kind {
 
 // The shapes of what stands behind a key word: nothing, one word, two words, a name and words, two names and words,
 // a diagram, a name and a diagram, (p ?a ..) and a diagram; and the shape of no line.
-#[derive(Drop)]
+#[derive(Clone, Copy)]
 pub enum Shape {
     Nothing,
     One(Sort),

@@ -225,10 +225,10 @@ map-within f [] i d e h = absurd (omega arith)
 map-within f (x ∷ xs) zero d e h = refl
 map-within f (x ∷ xs) (suc i) d e h = map-within f xs i d e (omega arith)
 
-abbrev no_line_lem : Words K.Action
-no_line_lem = ([], [])
+abbrev no_line : Words K.Action
+no_line = ([], [])
 
-declared-name : {ls : List (List ℕ)} {ys : List Reply} {ws : List (Words K.Action)} → Declares ls ys ws → (i : ℕ) → i < length ws → IsName (get_or ws i no_line_lem).0
+declared-name : {ls : List (List ℕ)} {ys : List Reply} {ws : List (Words K.Action)} → Declares ls ys ws → (i : ℕ) → i < length ws → IsName (get_or ws i no_line).0
 declared-name no_line_lem i h = absurd (omega arith)
 declared-name (action w g e f r) zero h = g.0.0
 declared-name (action w g e f r) (suc i) h = declared-name r i (omega arith)
@@ -246,8 +246,8 @@ text-names ls σ q x y h =
     let ws = g.lines in
     let i = x.action in
     let place : i < length ws = omega (arith, h.declared, ap length g.names, length-map ws (λ (w : Words K.Action). key_of w.0)) in
-    let key = ap (λ (l : List Key). get_or l i no_key) g.names ∙ map-within (λ (w : Words K.Action). key_of w.0) ws i no_line_lem no_key place in
-    let name = ap name_of key ∙ name-of (get_or ws i no_line_lem).0 (declared-name g.declared i place) in
+    let key = ap (λ (l : List Key). get_or l i no_key) g.names ∙ map-within (λ (w : Words K.Action). key_of w.0) ws i no_line no_key place in
+    let name = ap name_of key ∙ name-of (get_or ws i no_line).0 (declared-name g.declared i place) in
     record {
       lines = ws;
       declared = g.declared;
@@ -257,5 +257,5 @@ text-names ls σ q x y h =
           tuple-length h.steps.chosen.is_move.objects-are
           ∙ sym (map_at (λ (a : Action). a.count) σ.model.actions i (record { count = 0; variants = [] }) 0 refl)
           ∙ ap (λ (l : List ℕ). get_or l i 0) g.counts
-          ∙ map_at (λ (w : Words K.Action). length w.1) ws i no_line_lem 0 refl;
+          ∙ map_at (λ (w : Words K.Action). length w.1) ws i no_line 0 refl;
     }

@@ -8,7 +8,7 @@ use Rattle.basics.specs.Members.{clash}
 use Rattle.diagram.specs.Diagram.{Diagram}
 use Rattle.regression.specs.Regression.{Truths}
 use Rattle.mdp.specs.Model.{Variant, Action}
-use Rattle.replay.specs.Replay.{Did, no_action, no_variant_lem, variant_of}
+use Rattle.replay.specs.Replay.{Did, no_action, no_variant, variant_of}
 use Rattle.words.specs.Keys.{key_of}
 use Rattle.text.specs.declared.Kind.TheVariants as K
 use Rattle.text.specs.Line.{Words, is_bad, line_bytes, GoodLine}
@@ -334,9 +334,9 @@ module _ (ls : List (List ℕ)) (xs : List ActionDrawn) (d : DrawingsOf ls xs) (
 
   variant-drawn : variant_of (reached ls).model did ≡ variant_from (drawn_at xs did.action did.variant)
   variant-drawn =
-      ap (λ (l : List Action). get_or (get_or l did.action no_action).variants did.variant no_variant_lem) (text-drawn ls xs d).actions
-      ∙ ap (λ (a : Action). get_or a.variants did.variant no_variant_lem) (map_at action_from xs did.action no_drawing no_action refl)
-      ∙ map_at variant_from (get_or xs did.action no_drawing).variants did.variant none_drawn no_variant_lem refl
+      ap (λ (l : List Action). get_or (get_or l did.action no_action).variants did.variant no_variant) (text-drawn ls xs d).actions
+      ∙ ap (λ (a : Action). get_or a.variants did.variant no_variant) (map_at action_from xs did.action no_drawing no_action refl)
+      ∙ map_at variant_from (get_or xs did.action no_drawing).variants did.variant none_drawn no_variant refl
 
   -- where names and counts pass, it moves by the diagrams that the lines of these names draw
   pub text-did-drawn : NamesPass (reached ls) w → DidDrawn ls xs w

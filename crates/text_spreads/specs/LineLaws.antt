@@ -22,7 +22,7 @@ use Rattle.state.specs.Lent.{constants_below, most_objects}
 use Rattle.minimum.specs.Number.{number}
 use Rattle.elimination.specs.Answer.{is_too_large}
 use Rattle.spread.specs.Ground.{choice_state}
-use Rattle.spread.specs.Spread.{value_in_lem, spread}
+use Rattle.spread.specs.Spread.{value_in, spread}
 use Rattle.words.specs.Bytes.{value_of}
 use Rattle.text.specs.declared.Kind.{Kind}
 use Rattle.text.specs.declared.Kind.TheVariants as K
@@ -153,7 +153,7 @@ module _ (σ : Session) (n : ℕ) where
 
 -- the listing is that of the value diagram
 pub value-is : (σ : Session) → GoodSession σ → σ.part ≡ Run → (n c : ℕ) → number (choice_of σ n c) [] (meaning σ.model.arities σ.held.diagram) ≡ value_at σ n c
-unfolding value_in_lem
+unfolding value_in
 value-is σ g p n c =
     ap (λ d. number (choice_of σ n c) [] (meaning σ.model.arities d)) (sym (diagram-listing σ.model.arities σ.held.diagram (g.begun p).value.listed))
 

@@ -30,21 +30,21 @@ pub const WORK_WORDS: usize = diagram::SPACE_WORDS;
 pub const LINE_ROOM: usize = 4096;
 
 // What a text is answered in a buffer: the bytes of all answers; or the bytes written and the lines answered before the line whose answer has no room.
-#[derive(Drop)]
+#[derive(Clone, Copy)]
 pub enum Ran {
     Done(usize),
     Full(usize, u64),
 }
 
 // The numbers behind a line, and the place behind its answer, if that has room.
-#[derive(Drop)]
+#[derive(Clone, Copy)]
 pub struct Sent {
     pub numbers: Numbers,
     pub put: Put,
 }
 
 // How far a text is read: the session's numbers, the lines answered, whether one of them had bytes, and the bytes of their answers.
-#[derive(Drop)]
+#[derive(Clone, Copy)]
 pub struct Position {
     pub numbers: Numbers,
     pub lines: u64,
@@ -53,7 +53,7 @@ pub struct Position {
 }
 
 // How far the lines of a block are answered: the place behind the last of them, the position, and whether the answer of the next has no room.
-#[derive(Drop)]
+#[derive(Clone, Copy)]
 pub struct Answered {
     pub at: usize,
     pub position: Position,
@@ -61,7 +61,7 @@ pub struct Answered {
 }
 
 // The bytes that are left of a block, and whether there is a whole line among them.
-#[derive(Drop)]
+#[derive(Clone, Copy)]
 pub struct Rest {
     pub count: usize,
     pub whole: bool,

@@ -81,7 +81,7 @@ pub fn are_listed(arities: &[u64], truths: &[u64], spans: &[u64]) -> bool
 }
 
 // What the checks of truth diagrams say.
-#[derive(Drop)]
+#[derive(Clone, Copy)]
 pub enum Verdict {
     Passed,
     Refused(Refusal),

@@ -22,7 +22,7 @@ use refusal::Refusal;
 use state::{FACT_WORDS, VALUATIONS, Valued};
 
 // What a label's places say: a term that has no object yet, or the bucket of the fact that it asks for.
-#[derive(Drop)]
+#[derive(Clone, Copy)]
 pub enum Lookup {
     Free(usize),
     Bucket(usize),

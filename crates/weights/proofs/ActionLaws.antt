@@ -5,7 +5,7 @@ use mathlib.Core.List.{List, [], ◌∷◌, ◌++◌}
 use Prim.Native.Nat.{ℕ, suc, ◌+◌, ◌*◌, ◌≤◌, ◌<◌}
 use native.Mathlib.Omega.{arith}
 use native.Mathlib.Numerals.{add-one}
-use lib.ListN.{length, take, replicate, length-replicate}
+use lib.ListN.{length, take}
 use lib.Dec.{ltb}
 use Rattle.refusal.specs.declared.Refusal.{Refusal}
 use Rattle.refusal.specs.declared.Refusal.TheVariants.{Weights, Paths}
@@ -31,7 +31,7 @@ use Rattle.steps.specs.FoldLaws.{many_more, refused-stays}
 use Rattle.session.specs.ModelLines.{weights_sum, weighed}
 use Rattle.weights.specs.declared.Weighed.{Weighed}
 use Rattle.weights.specs.declared.Weighed.TheVariants.{Done, Refused}
-use Rattle.weights.specs.Weighing.{weighed_as, judged_as, SumTask, ActionTask, Weighable}
+use Rattle.weights.specs.Weighing.{weighed_as, judged_as, ActionTask, Weighable}
 
 -- ===== One action more, at the end =====
 
@@ -67,9 +67,6 @@ module _ (ar : List ℕ) (total : ℕ) where
 -- ===== An action =====
 
 module _ {ar listings table : List ℕ} {a : ℕ} {work : List ℕ} (t : ActionTask ar listings table a work) where
-  pub action-sum : (n : ℕ) → result_words ≤ n → SumTask ar listings table a (replicate n 0) (replicate n 0) work
-  action-sum n h = record { action = t; out-room = omega (arith, length-replicate {A = ℕ} n 0); spare-room = omega (arith, length-replicate {A = ℕ} n 0) }
-
   module _ (total : ℕ) where
     abbrev A : Outcome (Unit {0})
     A = weighed ar total (action_at listings table a ∷ [])

@@ -25,14 +25,13 @@ use Rattle.weights.specs.Weighing.{AddTask, SumTask}
 
 -- ===== A weight added =====
 
-module _ {ar listings table : List ℕ} {place : ℕ} {sum : List ℕ} {n : ℕ} {spare work : List ℕ} (t : AddTask ar listings table place sum n spare work) where
-  pub add-folding : {ws : List ℕ} → ws ≡ weight_words listings table place → Folding ar sum n ws spare work
+module _ {ar listings table : List ℕ} {place : ℕ} {sum : List ℕ} {n : ℕ} {work : List ℕ} (t : AddTask ar listings table place sum n work) where
+  pub add-folding : {ws : List ℕ} → ws ≡ weight_words listings table place → Folding ar sum n ws work
   add-folding {ws} e = record {
     first = t.begins.listing;
     second = ap (is_listing ar) e ∙ t.laid.weight;
     inside = t.begins.room;
     buffer-room = t.sum_room;
-    spare-room = t.spare-room;
     work-room = t.work-room;
   }
 
@@ -75,7 +74,7 @@ pub record Summing (ar listings table : List ℕ) (a : ℕ) (out : List ℕ) (n 
   pub within : v ≤ variants_of table a
   pub folded : Folded ar (λ vs. weights_sum ar (leaf 0) vs) (λ w. variant_at listings table (variant_place a w)) out n v
 
-module _ {ar listings table : List ℕ} {a : ℕ} {out₀ spare₀ work₀ : List ℕ} (t : SumTask ar listings table a out₀ spare₀ work₀) where
+module _ {ar listings table : List ℕ} {a : ℕ} {out₀ work₀ : List ℕ} (t : SumTask ar listings table a out₀ work₀) where
   abbrev F : ℕ → Variant
   F v = variant_at listings table (variant_place a v)
 
@@ -93,14 +92,12 @@ module _ {ar listings table : List ℕ} {a : ℕ} {out₀ spare₀ work₀ : Lis
   summing_start b = record { within = omega arith; folded = folded_start S D F (sum_more ar (leaf 0)) t.action.arities (sum-none ar (leaf 0)) b }
 
   module _ {out : List ℕ} {n v : ℕ} (x : Summing ar listings table a out n v) (l : v < variants_of table a) where
-    pub summing-task : {spare work : List ℕ} → length out ≡ length out₀ → length spare ≡ length spare₀ → length work ≡ length work₀
-        → AddTask ar listings table (variant_place a v) out n spare work
-    summing-task p s q = record {
+    pub summing-task : {work : List ℕ} → length out ≡ length out₀ → length work ≡ length work₀ → AddTask ar listings table (variant_place a v) out n work
+    summing-task p q = record {
       laid = t.action.laid.variants v l;
       inside = omega (arith, t.action.inside, t.action.laid.few, l);
       begins = folded-begins S D F (sum_more ar (leaf 0)) x.folded;
       sum_room = omega (arith, p, t.out-room);
-      spare-room = omega (arith, s, t.spare-room);
       work-room = omega (arith, q, t.action.work-room);
     }
 

@@ -27,13 +27,12 @@ judged_as Only = Done
 
 -- ===== What the functions require =====
 
--- the weight of the variant at a place of the table, a sum in the first n rows of a buffer, and room for another
-pub record AddTask (ar listings table : List ℕ) (place : ℕ) (sum : List ℕ) (n : ℕ) (spare work : List ℕ) : Type 0 where
+-- the weight of the variant at a place of the table, and a sum in the first n rows of a buffer
+pub record AddTask (ar listings table : List ℕ) (place : ℕ) (sum : List ℕ) (n : ℕ) (work : List ℕ) : Type 0 where
   pub laid : LaidVariant ar listings table place
   pub inside : place + variant_words ≤ length table
   pub begins : BufferListing ar n sum
   pub sum_room : result_words ≤ length sum
-  pub spare-room : result_words ≤ length spare
   pub work-room : space_words ≤ length work
 
 -- the action a of the table
@@ -43,11 +42,10 @@ pub record ActionTask (ar listings table : List ℕ) (a : ℕ) (work : List ℕ)
   pub inside : a * action_words + action_words ≤ length table
   pub work-room : space_words ≤ length work
 
--- the same, and room for a sum and for the next
-pub record SumTask (ar listings table : List ℕ) (a : ℕ) (out spare work : List ℕ) : Type 0 where
+-- the same, and room for a sum
+pub record SumTask (ar listings table : List ℕ) (a : ℕ) (out work : List ℕ) : Type 0 where
   pub action : ActionTask ar listings table a work
   pub out-room : result_words ≤ length out
-  pub spare-room : result_words ≤ length spare
 
 -- a model's actions laid out in words, and room for the rows formed; the reward plays no part
 pub record Weighable (ar listings table : List ℕ) (h : Head) (work : List ℕ) : Type 0 where

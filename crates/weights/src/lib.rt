@@ -17,7 +17,7 @@ use refusal::Refusal;
 use steps::Step;
 
 // What the check of the weights answers: each action's sum leads to W only, or the first refusal met.
-#[derive(Drop)]
+#[derive(Clone, Copy)]
 pub enum Weighed {
     Done,
     Refused(Refusal),
@@ -31,23 +31,14 @@ fn add_weight(
     place: usize,
     sum: &mut [u64],
     n: usize,
-    spare: &mut [u64],
     work: &mut [u64],
 ) -> Step
-    requires { AddTask arities.now listings.now table.now place sum.old n spare.old work.old }
+    requires { AddTask arities.now listings.now table.now place sum.old n work.old }
     ensures { Given arities.now (combined Sum Shared arities.now (diagram_of (take (n * 3) sum.old)) (variant_at listings.now table.now place).weight) result sum.new }
 {
     let start = table[place] as usize;
     let end = start + table[place + 1] as usize;
-    steps::fold_shared(
-        Operation::Sum,
-        arities,
-        sum,
-        n,
-        &listings[start..end],
-        spare,
-        work,
-    )
+    steps::fold_shared(Operation::Sum, arities, sum, n, &listings[start..end], work)
 }
 
 // The sum of the weights of an action, begun at leaf 0, each added in order with names shared.
@@ -57,10 +48,9 @@ fn weights_sum(
     table: &[u64],
     action: usize,
     out: &mut [u64],
-    spare: &mut [u64],
     work: &mut [u64],
 ) -> Step
-    requires { SumTask arities.now listings.now table.now action out.old spare.old work.old }
+    requires { SumTask arities.now listings.now table.now action out.old work.old }
     ensures { Given arities.now (weights_sum arities.now (leaf 0) (action_at listings.now table.now action).variants) result out.new }
 {
     let variants = table[action * model::ACTION_WORDS + 1] as usize;
@@ -68,7 +58,7 @@ fn weights_sum(
     let mut v = 0;
     while v < variants {
         let place = action * model::ACTION_WORDS + 2 + v * model::VARIANT_WORDS;
-        let r = add_weight(arities, listings, table, place, out, n, spare, work);
+        let r = add_weight(arities, listings, table, place, out, n, work);
         let Step::Rows(m) = r else {
             return r;
         };
@@ -102,8 +92,7 @@ fn weigh_action(
     ensures { result ≡ weighed_as (weighed arities.now total (action_at listings.now table.now action ∷ [])) }
 {
     let mut sum = [0u64; diagram::RESULT_WORDS];
-    let mut spare = [0u64; diagram::RESULT_WORDS];
-    let r = weights_sum(arities, listings, table, action, &mut sum, &mut spare, work);
+    let r = weights_sum(arities, listings, table, action, &mut sum, work);
     match r {
         Step::Rows(n) => judge(contradict::leads_to(arities, &sum[..n * 3], total)),
         Step::Refused(e) => Weighed::Refused(e),

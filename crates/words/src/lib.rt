@@ -6,14 +6,14 @@ ghost use Rattle.words.specs.Words.{number_form};
 ghost use Rattle.words.specs.Keys.{little, key_of};
 
 // How many bytes a form took, or that the bytes do not begin with one.
-#[derive(Drop)]
+#[derive(Clone, Copy)]
 pub enum Took {
     Bytes(usize),
     Refused,
 }
 
 // A name: its first eight bytes and the others, the first byte lowest.
-#[derive(Drop)]
+#[derive(Clone, Copy)]
 pub struct Key {
     pub a: u64,
     pub b: u64,

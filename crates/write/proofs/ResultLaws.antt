@@ -29,7 +29,7 @@ use Rattle.write.specs.declared.Listed.TheVariants.{Rows, TooMany}
 use Rattle.write.specs.Numbering.{Marked, Unmarked, Unnumbered, Downward, Numbered}
 use Rattle.write.specs.Writing.{renumbered, listed_rows, Emittable, Writable, write_answer, write_words, WritePost}
 use Rattle.write.proofs.NumberLaws.{place_of}
-use Rattle.write.proofs.WriteLaws.{row_words_lem, renumbered-leaf, renumbered-branch, listed-none, listed-snoc}
+use Rattle.write.proofs.WriteLaws.{row_words, renumbered-leaf, renumbered-branch, listed-none, listed-snoc}
 
 below_at : (m : ℕ) (xs : List ℕ) (i : ℕ) → AllBelow m xs → i < length xs → get_or xs i 0 < m
 below_at m [] i a h = absurd (omega arith)
@@ -145,11 +145,11 @@ module _ {s : List ℕ} {count root : ℕ} {marks order out : List ℕ} (w : Wri
     }
 
     -- the words of row j
-    row_words_lem : (j : ℕ) → j < m → encode (rows D) (tree s (get_or order' j 0) ∷ []) ≡ row_words_lem (renumbered s marks' (get_or order' j 0))
+    row_words_lem : (j : ℕ) → j < m → encode (rows D) (tree s (get_or order' j 0) ∷ []) ≡ row_words (renumbered s marks' (get_or order' j 0))
     unfolding encode
     row_words_lem j h = go (flag (eqb (label_at s (get_or order' j 0)) leaf_mark))
       where
-        go : Flag (eqb (label_at s (get_or order' j 0)) leaf_mark) → encode (rows D) (tree s (get_or order' j 0) ∷ []) ≡ row_words_lem (renumbered s marks' (get_or order' j 0))
+        go : Flag (eqb (label_at s (get_or order' j 0)) leaf_mark) → encode (rows D) (tree s (get_or order' j 0) ∷ []) ≡ row_words (renumbered s marks' (get_or order' j 0))
         go (is_true e) = let e' = eqb-true _ _ e in rw (trees.leaves (get_or order' j 0) (row_below j h) e', renumbered-leaf s marks' (get_or order' j 0) e')
         go (is_false e) =
             let e' = eqb-false _ _ e in

@@ -10,7 +10,7 @@ use label::Label;
 use table::Row;
 
 // What writing a listing answers: its rows, or that they are too many.
-#[derive(Drop)]
+#[derive(Clone, Copy)]
 pub enum Listed {
     Rows(usize),
     TooMany,

@@ -18,7 +18,7 @@ const BLOCK_BYTES: usize = 65536;
 const OUT_BYTES: usize = 157696;
 
 // What is read, and how many bytes are in hand.
-#[derive(Drop)]
+#[derive(Clone, Copy)]
 struct Refilled {
     tally: Tally,
     n: usize,

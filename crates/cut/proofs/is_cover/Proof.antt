@@ -1,4 +1,4 @@
-use Rattle.cut.proofs.ChoosingLaws.{ask-enterable, cover-through, cover-low, cover-asked}
+use Rattle.cut.proofs.ChoosingLaws.{ask-at, ask-enterable, cover-through, cover-low, cover-asked}
 use borrow.Author.Rules.{rules}
 use Rattle.cut.proofs.is_cover.Statement.{statement}
 use Rattle.cut.proofs.is_cover.Tie as tie
@@ -18,7 +18,7 @@ is-covered-requires : tie.Need-is-covered-requires
 is-covered-requires c κs =
     let entry = c.before.before.before.before.before.before.before.before.before.before.before.before.before.before.before.before.requires in
     let face = entry.1.0 in
-    (entry.0.known, (face.held, (entry.1.1.0, ask-enterable entry.0 entry.1.1.1 face.room)))
+    (entry.0.known, (face.held, ((ask-at entry.0 entry.1.1.0).2, ask-enterable entry.0 entry.1.1.1 face.room)))
 
 returns-3 : tie.Need-returns-3
 returns-3 c =

@@ -10,7 +10,7 @@ use Rattle.cut.proofs.may_go.Statement.{statement}
 use Rattle.cut.proofs.may_go.Tie as tie
 
 abbrev invariant-loop : tie.invariant-loop
-invariant-loop arities words counts n m leaves sides memo₀ r side p₀ memo p = (length memo ≡ length memo₀) × (p ≤ m) × Known arities words memo n m × (free_below arities words n sides side m p ≡ true)
+invariant-loop arities words counts n m leaves sides memo₀ r side p₀ memo p = (length memo ≡ length memo₀) × (p ≤ m) × Known arities words memo n × (free_below arities words n sides side m p ≡ true)
 
 abbrev decreases-loop : tie.decreases-loop
 decreases-loop arities words counts n m leaves sides memo₀ r side p₀ memo p = m - p

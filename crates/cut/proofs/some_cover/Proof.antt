@@ -10,7 +10,7 @@ use Rattle.cut.proofs.some_cover.Tie as tie
 
 abbrev invariant-loop : tie.invariant-loop
 invariant-loop arities words counts n m leaves sides memo₀ into a kinds from₀ side p q₀ memo from q =
-    (length memo ≡ length memo₀) × (length from ≡ length from₀) × (q ≤ m) × Known arities words memo n m × (cover_below arities words n sides side p q ≡ false)
+    (length memo ≡ length memo₀) × (length from ≡ length from₀) × (q ≤ m) × Known arities words memo n × (cover_below arities words n sides side p q ≡ false)
 
 abbrev decreases-loop : tie.decreases-loop
 decreases-loop arities words counts n m leaves sides memo₀ into a kinds from₀ side p q₀ memo from q = m - q

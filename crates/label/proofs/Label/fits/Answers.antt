@@ -1,0 +1,22 @@
+use Rattle.label.proofs.CodeLaws.{fits-not-predicate, fits_not, fits-not-ended, fits-other, fits-equality}
+use Rattle.label.proofs.Label.fits.Goals as goal
+
+pub returns-then-p-ge-PREDICATES : goal.returns-then-p-ge-PREDICATES
+returns-then-p-ge-PREDICATES c =
+    search fits-not-predicate
+
+pub returns-then-not-is_term : goal.returns-then-not-is_term
+returns-then-not-is_term c =
+    search fits_not
+
+pub returns-then-not-ends_at : goal.returns-then-not-ends_at
+returns-then-not-ends_at c =
+    search fits-not-ended
+
+pub returns-then-p-ne0 : goal.returns-then-p-ne0
+returns-then-p-ne0 c =
+    search fits-other
+
+pub returns : goal.returns
+returns c =
+    search fits-equality

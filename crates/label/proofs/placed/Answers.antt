@@ -1,0 +1,10 @@
+use Rattle.label.proofs.CodeLaws.{placed-unused, placed-used}
+use Rattle.label.proofs.placed.Goals as goal
+
+pub returns-then-k-n : goal.returns-then-k-n
+returns-then-k-n c =
+    search placed-used
+
+pub returns : goal.returns
+returns c =
+    search placed-unused
