@@ -1,4 +1,6 @@
 // The answers of a text written as bytes into a lent buffer.
+#![tactic(auto)]
+
 ghost use Rattle.std.specs.Prelude.{◌≡◌, ◌+◌, ◌*◌, ◌≤◌, [], ◌∷◌, ◌++◌, length, take};
 ghost use Rattle.words.specs.Keys.{bytes_within, name_of};
 ghost use Rattle.diagram.specs.Sizes.{most_rows};

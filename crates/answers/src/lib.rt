@@ -1,4 +1,6 @@
 // The answers of a text. What they are as bytes stands in specs/.
+#![tactic(auto)]
+
 use cutting::Edge;
 use refusal::Refusal;
 use words::Key;

@@ -1,4 +1,6 @@
 // Combination of two lent listings with names apart: the operands' rows are formed with their variables moved aside, combined, and the result is written closed up.
+#![tactic(auto)]
+
 ghost use Rattle.std.specs.Prelude.{◌≡◌, ◌++◌, ◌*◌, length, drop};
 ghost use Rattle.diagram.specs.Rows.{onto};
 ghost use Rattle.diagram.specs.Listing.{listing, diagram_of};

@@ -1,4 +1,6 @@
 // Combination of two diagrams: sum, product and max, with names apart or shared. What it is stands in specs/.
+#![tactic(auto)]
+
 use refusal::Refusal;
 
 #[derive(Clone, Copy)]

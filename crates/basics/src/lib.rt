@@ -1,4 +1,6 @@
 // Numbers that every layer uses.
+#![tactic(auto)]
+
 ghost use Rattle.std.specs.Prelude.{◌≡◌};
 
 // A table's entry as an index.

@@ -1,1 +1,2 @@
 // Which move to make. What it is stands in specs/.
+#![tactic(auto)]

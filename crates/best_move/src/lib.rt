@@ -1,4 +1,6 @@
 // The code of (best): the first move whose sum over variants is highest. What it is stands in crate best.
+#![tactic(auto)]
+
 ghost use Rattle.std.specs.Prelude.{◌≡◌, true, ◌++◌, ◌<◌, ◌≤◌, ◌^◌, length, drop};
 ghost use Rattle.refusal.specs.Outcome.{ok, and_then};
 ghost use Rattle.label.specs.Limits.{parameter_count};

@@ -1,1 +1,2 @@
 // The diagram of a line of a text, as definitions. What it is stands in specs/.
+#![tactic(auto)]

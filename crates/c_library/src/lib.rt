@@ -1,4 +1,6 @@
 // The engine's calls for C, over memory that the caller lends; include/yindolve.h describes them. Each answers 0, or the number of the refusal.
+#![tactic(auto)]
+
 ghost use Rattle.std.specs.Prelude.{◌≡◌, ◌&&◌, ◌≤◌, leb, length};
 ghost use Rattle.diagram.specs.Words.{is_listing};
 ghost use Rattle.apply.specs.declared.Operation.TheVariants.{Sum, Product, Max};

@@ -1,4 +1,6 @@
 // Tests of the library's calls, read from standard input; its first lines say what a line means.
+#![tactic(auto)]
+
 ghost use Rattle.std.specs.Prelude.{◌≤◌, ◌<◌, length};
 
 use apply::{Combined, Names, Operation};

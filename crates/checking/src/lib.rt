@@ -1,4 +1,6 @@
 // Whether lent words are a model's: its listings one by one, and the table of where they stand. What each test says is in specs/.
+#![tactic(auto)]
+
 ghost use Rattle.std.specs.Prelude.{◌≡◌, true, not, ◌+◌, ◌*◌, ◌≤◌, ◌<◌, leb, length, take};
 ghost use Rattle.label.specs.Limits.{parameter_count, predicate_count, most_places, term_end};
 ghost use Rattle.diagram.specs.Diagram.{same};

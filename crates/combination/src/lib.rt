@@ -1,4 +1,6 @@
 // Public calls: sum, product and max of two lent listings, with names apart or shared.
+#![tactic(auto)]
+
 ghost use Rattle.std.specs.Prelude.{◌≡◌, length};
 ghost use Rattle.diagram.specs.Listing.{diagram_of};
 ghost use Rattle.diagram.specs.Validity.{Valid};

@@ -1,4 +1,6 @@
 // Combination of two diagrams in a working space: their pairs walked, the plan's ends checked, its rows formed.
+#![tactic(auto)]
+
 ghost use Rattle.std.specs.Prelude.{◌≡◌, ℕ, ◌+◌, ◌*◌, ◌<◌, ◌≤◌, max, length, ltb};
 ghost use Rattle.diagram.specs.Sizes.{highest_value};
 ghost use Rattle.apply.specs.Combination.{operate};

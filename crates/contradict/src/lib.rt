@@ -1,4 +1,6 @@
 // Whether the paths of a listing that have a leaf other than one contradict themselves by equality. What that is stands in crate contradiction.
+#![tactic(auto)]
+
 ghost use Rattle.std.specs.Prelude.{◌≡◌, true, cond, ◌-◌, ◌/◌, ◌<◌, ◌≤◌, length, eqb};
 ghost use Rattle.label.specs.Limits.{term_end};
 ghost use Rattle.label.specs.Inner.{map_of};

@@ -1,1 +1,2 @@
 // Paths that contradict themselves by equality. What they are stands in specs/.
+#![tactic(auto)]

@@ -1,4 +1,6 @@
 // The public call of a cut: the edge that goes is chosen, and what is left is written.
+#![tactic(auto)]
+
 ghost use Rattle.std.specs.Prelude.{◌≡◌, true, ◌-◌, ◌/◌, ◌≤◌, ◌<◌, length, eqb};
 ghost use Rattle.diagram.specs.Sizes.{most_rows};
 ghost use Rattle.diagram.specs.Diagram.{leaf, same};

@@ -46,6 +46,7 @@ step-each P s p e k l (Memᴰ.tail m) = k l m
 -- what is so of every label of a diagram is so on its paths
 pub path-each : (P : ℕ → Type 0) (d : Diagram) → EveryLabel P d → (p : Path) → Memᴰ p (paths d) → (l : Literal) → Memᴰ l (literals p) → P l.label
 unfolding paths literals
+path-each P (leaf v) f p (Memᴰ.tail x6) = elim x6 [ ]
 path-each P (leaf v) f p (Memᴰ.head e) = rw e (λ l m. absurd (Memᴰ.not-nil m))
 path-each P (branch l t g) f p m =
     go (Memᴰ.append_cases (map (step_before high) (paths t)) m) (path-each P t f.1) (path-each P g f.2)
@@ -150,10 +151,12 @@ some-path-out f (p ∷ l) e = go (either (f p) (some_path f l) e) (some-path-out
     go (other q) rec = let k = rec q in (k.0, Memᴰ.tail k.1, k.2)
 
 pub some-path-in : (f : Path → Bool) (l : List Path) (q : Path) → Memᴰ q l → f q ≡ true → some_path f l ≡ true
+some-path-in f [] q x'' k = elim x'' [ ]
 some-path-in f (p ∷ l) q (Memᴰ.head e) k = or-one (f p) (some_path f l) (ap f (sym e) ∙ k)
 some-path-in f (p ∷ l) q (Memᴰ.tail n) k = or-other (f p) (some_path f l) (some-path-in f l q n k)
 
 pub every-path-out : (f : Path → Bool) (l : List Path) → every_path f l ≡ true → (p : Path) → Memᴰ p l → f p ≡ true
+every-path-out f [] e p x'' = elim x'' [ ]
 every-path-out f (q ∷ l) e p (Memᴰ.head k) = ap f k ∙ and_left (f q) _ e
 every-path-out f (q ∷ l) e p (Memᴰ.tail n) = every-path-out f l (and_right (f q) _ e) p n
 
@@ -209,6 +212,7 @@ module _ (ar : List ℕ) (d : Diagram) (good : are_arities ar ≡ true) (fine : 
 
   pub may_go-complete : (b : Bool) (r : Diagram) → MayGo ar d b r → may_go ar d b r ≡ true
   unfolding may_go
+  may_go-complete b (leaf _) x'' = elim x'' [ ]
   may_go-complete b (branch l t f) (may n c) =
       rw (not_same (flag (same (target b t f) (leaf 0)))) (every-path-in (is_free ar (branch l t f) b (paths d)) (paths d) (λ p i. cover-free (branch l t f) b p i (c p i)))
     where

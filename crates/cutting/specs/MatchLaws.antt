@@ -106,6 +106,7 @@ beq_same false = refl
 pub among_in : (ar : List ℕ) (p : ℕ) (b : Bool) (ls : List Literal) (k : ℕ) (us : List ℕ) → Memᴰ (lit k b) ls → p ≡ predicate_of k
     → Memᴰ us (ways p (terms_of ar (unpacked k))) → Memᴰ us (ways_among ar p b ls)
 unfolding ways_among ways_to
+among_in ar p b [] k us x3 z w = elim x3 [ ]
 among_in ar p b (m ∷ ls) k us (Memᴰ.head e) z w =
     Memᴰ.append_left (ways_among ar p b ls) (subst (λ (l : Literal). Memᴰ us (ways_to ar p b l)) e (rw (eq-eqb p (predicate_of k) z, beq_same b) w))
 among_in ar p b (m ∷ ls) k us (Memᴰ.tail n) z w = Memᴰ.append_right (ways_to ar p b m) (among_in ar p b ls k us n z w)
@@ -134,6 +135,7 @@ among-out ar p b (m ∷ ls) us w = go (Memᴰ.append_cases (ways_to ar p b m) w)
     go (inr n) rec = let r = rec n in record { label = r.label; one_of = Memᴰ.tail r.one_of; same-predicate = r.same-predicate; way = r.way }
 
 pub twice_in : (T : List ℕ) (t : ℕ) → Memᴰ t T → Memᴰ (t ∷ t ∷ []) (twice T)
+twice_in [] t x' = elim x' [ ]
 twice_in (u ∷ T) t (Memᴰ.head e) = Memᴰ.head (ap (λ (v : ℕ). v ∷ v ∷ []) e)
 twice_in (u ∷ T) t (Memᴰ.tail n) = Memᴰ.tail (twice_in T t n)
 
@@ -228,6 +230,7 @@ module _ (ar : List ℕ) (good : are_arities ar ≡ true) where
 -- the terms of a target are among T
 pub in-terms : (ar : List ℕ) (ls : List Literal) (l : Literal) (t : ℕ) → Memᴰ l ls → Memᴰ t (terms_of ar (unpacked l.label)) → Memᴰ t (terms_in ar ls)
 unfolding terms_in
+in-terms ar [] l t x'' i = elim x'' [ ]
 in-terms ar (m ∷ ls) l t (Memᴰ.head e) i =
     Memᴰ.append_left (terms_in ar ls) (subst (λ (x : Literal). Memᴰ t (terms_of ar (unpacked x.label))) e i)
 in-terms ar (m ∷ ls) l t (Memᴰ.tail n) i = Memᴰ.append_right (terms_of ar (unpacked m.label)) (in-terms ar ls l t n i)
@@ -278,6 +281,7 @@ some_out (us ∷ r) f e = go (either (f us) (some_of r f) e) (some_out r f)
     go (other q) rec = let k = rec q in (k.0, Memᴰ.tail k.1, k.2)
 
 pub some_in : (l : List (List ℕ)) (f : List ℕ → Bool) (us : List ℕ) → Memᴰ us l → f us ≡ true → some_of l f ≡ true
+some_in [] f us x'' k = elim x'' [ ]
 some_in (vs ∷ r) f us (Memᴰ.head e) k = or-one (f vs) (some_of r f) (ap f (sym e) ∙ k)
 some_in (vs ∷ r) f us (Memᴰ.tail n) k = or-other (f vs) (some_of r f) (some_in r f us n k)
 

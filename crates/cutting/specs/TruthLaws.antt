@@ -128,9 +128,14 @@ tells-step r b l t f c x p e k = record {
     go true = unfold eval in refl
     go false = k.new
 
+-- at a leaf both read its value
+leaf-told : (r : Diagram) (b : Bool) (v : ℕ) (c : ℕ → Bool) (p : Path) → p ≡ record { steps = []; end = v } → Tells r b (leaf v) c p
+leaf-told r b v c p e = rw e (record { old = unfold eval in refl; new = unfold eval cut_at through in refl })
+
 pub tells : (r : Diagram) (b : Bool) (d : Diagram) (c : ℕ → Bool) (p : Path) → Memᴰ p (paths d) → Follows c p → Tells r b d c p
 unfolding paths
-tells r b (leaf v) c p (Memᴰ.head e) fo = rw e (record { old = unfold eval in refl; new = unfold eval cut_at through in refl })
+tells r b (leaf v) c p (Memᴰ.head e) fo = leaf-told r b v c p e
+tells r b (leaf v) c p (Memᴰ.tail x7) fo = elim x7 [ ]
 tells r b (branch l t f) c p m fo =
     go (Memᴰ.append_cases (map (step_before (step_on true l t f)) (paths t)) m) (tells r b t c) (tells r b f c)
   where
@@ -209,6 +214,7 @@ module _ (ar : List ℕ) (good : are_arities ar ≡ true) where
 
   -- an edge that may go leaves the highest leaf
   cut-highest : (d r : Diagram) (b : Bool) → MayGo ar d b r → (s : State) (os : List ℕ) (x : ℕ) → Highest s os (meaning ar d) x → Highest s os (meaning ar (cut_at r b d)) x
+  cut-highest d (leaf _) b x5 s os x m = elim x5 [ ]
   cut-highest d (branch l t f) b (may n cover) s os x m = highest-by (meaning ar d) (meaning ar (cut_at (branch l t f) b d)) m up down
     where
       r : Diagram

@@ -1,4 +1,6 @@
 // Cuts: an edge whose paths are all covered elsewhere goes to leaf 0. What they are stands in specs/.
+#![tactic(auto)]
+
 use refusal::Refusal;
 
 // The side of a row on which an edge leaves it.

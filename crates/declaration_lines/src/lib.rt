@@ -1,4 +1,6 @@
 // Lines that declare names and numbers: from the bytes of a line that stands where it may to the session behind it and the answer.
+#![tactic(auto)]
+
 ghost use Rattle.std.specs.Prelude.{◌≡◌, ◌≤◌, length};
 ghost use Rattle.text.specs.declared.Kind.TheVariants.{Total, Discount};
 ghost use Rattle.events.specs.Events.{first_word};

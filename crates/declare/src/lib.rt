@@ -1,4 +1,6 @@
 // Declarations: the tables that hold a session's names, and the lines that add to them.
+#![tactic(auto)]
+
 ghost use Rattle.std.specs.Prelude.{◌≡◌, ◌+◌, ◌*◌, ◌<◌, ◌≤◌, length, drop};
 ghost use Rattle.label.specs.Limits.{parameter_count};
 ghost use Rattle.names.specs.Layout.{name_words};

@@ -1,5 +1,7 @@
 // (best), (count n) and (did ..): from a line that stands where it may to its answer; the first two leave the session as it was, the third moves its state. What they
 // are stands in crate session, specs/Running, specs/Replaying and specs/Replies.
+#![tactic(auto)]
+
 ghost use Rattle.std.specs.Prelude.{◌≡◌, ◌+◌, ◌*◌, ◌<◌, ◌≤◌, length, drop};
 ghost use Rattle.std.proofs.Math.Seq.{paste};
 ghost use Rattle.state.specs.Lent.{fact_words, most_facts};

@@ -1,4 +1,5 @@
 // Limits of listings and of calls on them. What a diagram is stands in specs/.
+#![tactic(auto)]
 
 // Rows of a listing at most.
 pub const ROWS: usize = 1024;

@@ -1,4 +1,6 @@
 // The lines of a model with a diagram, on a session in lent words: (reward DIAGRAM), (variant n WEIGHT) and (becomes (p ?a ..) DIAGRAM).
+#![tactic(auto)]
+
 ghost use Rattle.std.specs.Prelude.{◌≡◌, false, ◌+◌, ◌*◌, ◌/◌, ◌≤◌, ◌<◌, length, drop};
 ghost use Rattle.label.specs.Limits.{predicate_count};
 ghost use Rattle.diagram.specs.Sizes.{result_words};

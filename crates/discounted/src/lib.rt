@@ -1,1 +1,2 @@
 // The discounted value in fractions. What it is stands in specs/.
+#![tactic(auto)]

@@ -1,4 +1,6 @@
 // The diagram that stands on a line: its words read into operations, and these built in one working space. What it is stands in specs/.
+#![tactic(auto)]
+
 ghost use Rattle.std.specs.Prelude.{◌≡◌, ◌+◌, ◌*◌, ◌≤◌, length, drop};
 ghost use Rattle.names.specs.Keys.{keys_at};
 ghost use Rattle.events.specs.Front.{events_of};

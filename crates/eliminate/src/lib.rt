@@ -1,4 +1,6 @@
 // Variable elimination over lent words: a table for each row of a listing, as numbers in one array.
+#![tactic(auto)]
+
 ghost use Rattle.std.specs.Prelude.{◌≡◌, cond, ◌+◌, ◌*◌, ◌^◌, ◌<◌, ◌≤◌, min, max, length};
 ghost use Rattle.label.specs.Limits.{first_minimum};
 ghost use Rattle.label.specs.Labels.{predicate_of};

@@ -1,4 +1,6 @@
 // The words of an accepted line one after another: a second pass over its bytes.
+#![tactic(auto)]
+
 ghost use Rattle.std.specs.Prelude.{◌≡◌, ◌+◌, ◌≤◌, ◌<◌, length};
 ghost use Rattle.events.specs.Events.{first_word};
 ghost use Rattle.events.specs.Contents.{key_in, number_in};

@@ -1,4 +1,6 @@
 // An index of facts: a hash table over lent rows of facts, by which a fact is found without a search through all of them.
+#![tactic(auto)]
+
 ghost use Rattle.std.specs.Prelude.{◌≡◌, ◌+◌, ◌*◌, ◌<◌, ◌≤◌, length};
 ghost use Rattle.label.specs.Limits.{most_places};
 ghost use Rattle.state.specs.Lent.{fact_words};

@@ -1,4 +1,6 @@
 // Lines of the state: its objects, the constants' objects and the facts, in lent words.
+#![tactic(auto)]
+
 ghost use Rattle.std.specs.Prelude.{◌≡◌, ◌+◌, ◌*◌, ◌<◌, ◌≤◌, length, drop, ◌&&◌, ltb};
 ghost use Rattle.std.proofs.Math.Seq.{paste};
 ghost use Rattle.state.specs.Lent.{fact_words, most_facts};

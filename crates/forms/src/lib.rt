@@ -1,4 +1,6 @@
 // Terms, atoms and diagrams: how many bytes each form takes.
+#![tactic(auto)]
+
 ghost use Rattle.std.specs.Prelude.{◌≡◌, ℕ, ◌+◌, ◌≤◌, ◌<◌, length};
 ghost use Rattle.words.specs.Inner.{name_form};
 ghost use Rattle.forms.specs.Form.{

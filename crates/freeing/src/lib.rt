@@ -1,4 +1,6 @@
 // Freeing of parameters: the call, and what it is made of. What freeing is stands in regression.
+#![tactic(auto)]
+
 ghost use Rattle.std.specs.Prelude.{◌≡◌, ◌+◌, ◌≤◌, length};
 ghost use Rattle.diagram.specs.Listing.{diagram_of};
 ghost use Rattle.rename.specs.Inner.{Freeable};

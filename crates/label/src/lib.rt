@@ -1,4 +1,6 @@
 // Terms, atoms and labels: kinds, packing, order, and renaming.
+#![tactic(auto)]
+
 ghost use Rattle.std.specs.Prelude.{◌≡◌, ◌+◌, ◌*◌, ◌<◌, ◌≤◌, min, length};
 ghost use Rattle.label.specs.Limits.{constant_count, parameter_count, variable_count, minimum_count, term_base, most_places, predicate_count};
 ghost use Rattle.label.specs.Terms.{is_term, kind_of, constant_term, parameter_term, variable_term, minimum_term};

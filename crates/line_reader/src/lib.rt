@@ -1,4 +1,6 @@
 // The reader of lines: a line read for its form, and its kind.
+#![tactic(auto)]
+
 ghost use Rattle.std.specs.Prelude.{◌≡◌, ℕ, ◌+◌, ◌≤◌, ◌<◌, length};
 ghost use Rattle.forms.specs.Form.{◌▹◌, byte, form, plain_form, diagram_form};
 ghost use Rattle.text.specs.Line.{IsLine};

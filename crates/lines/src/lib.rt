@@ -1,4 +1,6 @@
 // Lines of a text, answered: where a line may stand, and the function of its kind. What is answered stands in crate session, specs/Replies.
+#![tactic(auto)]
+
 ghost use Rattle.std.specs.Prelude.{◌≡◌, true, ◌≤◌, length};
 ghost use Rattle.label.specs.Limits.{constant_count, predicate_count};
 ghost use Rattle.mdp.specs.Model.{most_actions};

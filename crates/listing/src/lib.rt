@@ -1,4 +1,6 @@
 // The check that lent words are a listing (refusal 14), and the terms that a listing uses.
+#![tactic(auto)]
+
 ghost use Rattle.std.specs.Prelude.{◌≡◌, ◌+◌, ◌-◌, ◌*◌, ◌<◌, ◌≤◌, cond, eqb, length};
 ghost use Rattle.label.specs.Limits.{predicate_count, term_end};
 ghost use Rattle.table.specs.Table.{Table};

@@ -1,4 +1,6 @@
 // Whether one path covers another: a search for a replacement of variables, part by part.
+#![tactic(auto)]
+
 ghost use Rattle.std.specs.Prelude.{◌≡◌, true, false, cond, ℕ, ◌+◌, ◌-◌, ◌*◌, ◌/◌, ◌%◌, ◌<◌, ◌≤◌, length, get_or, eqb, ltb};
 ghost use Rattle.label.specs.Limits.{variable_count, first_minimum, most_places, equality_arity};
 ghost use Rattle.label.specs.Labels.{place_at};

@@ -1,4 +1,6 @@
 // A session in lent words: the numbers that go from line to line beside them, and what a line answers. What they stand for is in specs/.
+#![tactic(auto)]
+
 ghost use Rattle.std.specs.Prelude.{◌≡◌, ◌++◌, ◌≤◌, length, drop};
 ghost use Rattle.memory.specs.Inner.{with_state};
 ghost use Rattle.memory.specs.Memory.{opening_numbers};

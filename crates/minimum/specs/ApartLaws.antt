@@ -139,6 +139,7 @@ module _ (s : State) (os : List ℕ) (mine : ℕ → Bool) (a b : Tree Atomic) (
 pub in_mem : (t : ℕ) (ts : List ℕ) → Memᴰ t ts → mem eqb t ts ≡ true
 in_mem t (u ∷ ts) (Memᴰ.head e) = or-one (eqb t u) (mem eqb t ts) (eq-eqb t u e)
 in_mem t (u ∷ ts) (Memᴰ.tail m) = or-other (eqb t u) (mem eqb t ts) (in_mem t ts m)
+in_mem t [] x' = elim x' [ ]
 
 mem-in : (t : ℕ) (ts : List ℕ) → mem eqb t ts ≡ true → Memᴰ t ts
 mem-in t [] h = clash h refl

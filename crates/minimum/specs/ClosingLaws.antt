@@ -25,6 +25,7 @@ use Rattle.minimum.specs.RenamedLaws.{number-renamed, order-single}
 each_at : (P : ℕ → Type 0) (vs : List ℕ) → Each P vs → (t : ℕ) → Memᴰ t vs → P t
 each_at P (v ∷ vs) w t (Memᴰ.head e) = rw e w.0
 each_at P (v ∷ vs) w t (Memᴰ.tail m) = each_at P vs w.1 t m
+each_at P mathlib.Core.List.[] w t x'' = elim x'' [ ]
 
 vars-variable : (d : Tree Atomic) (t : ℕ) → Memᴰ t (vars d) → first_variable ≤ t
 vars-variable d t i = each_at (λ v. first_variable ≤ v) (vars d) (vars-up d) t i

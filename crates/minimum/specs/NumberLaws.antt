@@ -103,6 +103,7 @@ below_in m t h (v ∷ vs) i = go (ltb v m) refl i (below_in m t h vs)
     go true e (Memᴰ.tail j) r = Memᴰ.tail (r j)
     go false e (Memᴰ.head q) r = let k = ltb-false v m e in absurd (omega arith)
     go false e (Memᴰ.tail j) r = r j
+below_in m t h [] i = elim i [ ]
 
 pub from_in : (m t : ℕ) → m ≤ t → (vs : List ℕ) → Memᴰ t vs → Memᴰ t (from m vs)
 unfolding from
@@ -113,6 +114,7 @@ from_in m t h (v ∷ vs) i = go (ltb v m) refl i (from_in m t h vs)
     go true e (Memᴰ.tail j) r = r j
     go false e (Memᴰ.head q) r = Memᴰ.head q
     go false e (Memᴰ.tail j) r = Memᴰ.tail (r j)
+from_in m t h [] i = elim i [ ]
 
 pub number_is : (s : State) (os : List ℕ) → Good s → Bound s os → (d : Tree Atomic) → Number s os d (number s os d)
 unfolding number maximums minimums

@@ -86,6 +86,7 @@ pub overlay-in : (vs : List ℕ) (θ η : ℕ → ℕ) (t : ℕ) → Memᴰ t vs
 unfolding overlay
 overlay-in (v ∷ vs) θ η t (Memᴰ.head e) = overlay-kept vs (put θ v (η v)) η t (rw e (put_same θ v (η v)))
 overlay-in (v ∷ vs) θ η t (Memᴰ.tail m) = overlay-in vs (put θ v (η v)) η t m
+overlay-in [] θ η t x' = elim x' [ ]
 
 pub overlay-reach : (n : ℕ) (vs : List ℕ) (θ η : ℕ → ℕ) → ((t : ℕ) → η t < n) → Reach n vs θ (overlay vs θ η)
 unfolding overlay

@@ -28,6 +28,7 @@ back-of ρ (v ∷ vs) u i one = go (eqb (ρ v) (ρ u)) refl i (λ j. back-of ρ 
     go true e j r = one v (Memᴰ.head refl) (eqb-true (ρ v) (ρ u) e)
     go false e (Memᴰ.head q) r = absurd (eqb-false (ρ v) (ρ u) e (ap ρ (sym q)))
     go false e (Memᴰ.tail j) r = r j
+back-of ρ [] u i one = elim i [ ]
 
 -- what is no variable by θ, variables by θ where they come from
 drawn : (ℕ → ℕ) → (ℕ → ℕ) → ℕ → ℕ

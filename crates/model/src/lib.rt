@@ -1,4 +1,5 @@
 // A model in lent words: its numbers, its listings one after another, and a table of where they stand. Crate restoring tests words for one.
+#![tactic(auto)]
 
 // A model's numbers. The reward's listing has `reward_words` words from `reward_start` on; `words` is how many words the listings have in all.
 #[derive(Clone, Copy)]

@@ -1,4 +1,6 @@
 // Tables of names: keys of two words each, one behind another in words that the caller lends.
+#![tactic(auto)]
+
 ghost use Rattle.std.specs.Prelude.{◌≡◌, ◌+◌, ◌*◌, ◌≤◌, length};
 ghost use Rattle.names.specs.Inner.{put_key};
 ghost use Rattle.names.specs.Keys.{same_key, key_at, keys_at, place_of};

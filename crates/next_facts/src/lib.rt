@@ -1,4 +1,6 @@
 // The facts of the next state: from a state, a variant's lent truth diagrams and the objects of its parameters to rows of facts.
+#![tactic(auto)]
+
 ghost use Rattle.std.specs.Prelude.{◌≡◌, true, ◌||◌, not, suc, pred, ◌+◌, ◌-◌, ◌*◌, ◌<◌, ◌≤◌, length, set, take, drop, [], ◌∷◌};
 ghost use Rattle.label.specs.Limits.{most_places, term_end, predicate_count};
 ghost use Rattle.label.specs.Labels.{are_arities};

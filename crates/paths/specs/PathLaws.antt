@@ -29,10 +29,12 @@ use Rattle.paths.specs.Routes.{step_on, path_at}
 
 -- members of a list under a map
 pub mem-map : {A B : Type 0} (f : A → B) (l : List A) (a : A) → Memᴰ a l → Memᴰ (f a) (map f l)
+mem-map {A = A} {B = B} f [] a x' = elim x' [ ]
 mem-map f (x ∷ l) a (Memᴰ.head e) = Memᴰ.head (ap f e)
 mem-map f (x ∷ l) a (Memᴰ.tail m) = Memᴰ.tail (mem-map f l a m)
 
 pub mem-unmap : {A B : Type 0} (f : A → B) (l : List A) (b : B) → Memᴰ b (map f l) → (a : A) × Memᴰ a l × (b ≡ f a)
+mem-unmap {A = A} {B = B} f [] b x' = elim x' [ ]
 mem-unmap f (x ∷ l) b (Memᴰ.head e) = (x, Memᴰ.head refl, e)
 mem-unmap f (x ∷ l) b (Memᴰ.tail m) = let r = mem-unmap f l b m in (r.0, Memᴰ.tail r.1, r.2)
 
@@ -78,6 +80,7 @@ rows-paths d = omega (arith, onto-paths d [])
 -- a path has fewer steps than there are paths
 pub path-short : (d : Diagram) (p : Path) → Memᴰ p (paths d) → length p.steps < length (paths d)
 unfolding paths step_before
+path-short (leaf v) p (Memᴰ.tail x5) = elim x5 [ ]
 path-short (leaf v) p (Memᴰ.head e) = rw e (omega arith)
 path-short (branch l t f) p m = go (Memᴰ.append_cases (map (step_before high) (paths t)) m) (path-short t) (path-short f)
   where

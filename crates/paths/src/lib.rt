@@ -1,4 +1,6 @@
 // The paths of a listing by their numbers, true branch first: how many there are, their leaves, sides and literals.
+#![tactic(auto)]
+
 ghost use Rattle.std.specs.Prelude.{◌≡◌, suc, ◌+◌, ◌-◌, ◌*◌, ◌<◌, ◌≤◌, min, length};
 ghost use Rattle.label.specs.Limits.{leaf_mark};
 ghost use Rattle.diagram.specs.Words.{label_at};

@@ -1,4 +1,6 @@
 // Standard input and output, counted. The fields of a Tally are this crate's own, and only `start`, `read` and `write` make one: it counts the calls of the chain that it came from; other calls may have been made.
+#![tactic(auto)]
+
 ghost use Rattle.std.specs.Prelude.{◌≡◌, ◌+◌, ◌≤◌, ◌<◌, length};
 ghost use Rattle.pipes.specs.Tally.{started, is_open, is_ended, is_unread, counted, stopped, Reads, Writes};
 

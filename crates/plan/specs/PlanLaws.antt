@@ -1,5 +1,5 @@
 -- Laws of the plan: its keys, its words after a store, the index over them, an entry more, and clearing.
-use Rattle.std.specs.Prelude.{true, false, ◌≡◌, ◌⊎◌}
+use Rattle.std.specs.Prelude.{true, false, ◌≡◌}
 use Rattle.std.proofs.Math.Path.{refl, ap, subst}
 use Rattle.std.proofs.Common.{sym, ◌∙◌, eq-or-lt_of_le, le_of_suc-le-suc, add-one, arith, ext_get_or}
 use Rattle.std.proofs.Math.Logic.{⊎_elim}

@@ -1,4 +1,6 @@
 // Backups on models in lent words. What they are stands in crate mdp and in specs/.
+#![tactic(auto)]
+
 ghost use Rattle.std.specs.Prelude.{◌≡◌, ◌*◌, ◌≤◌, take};
 ghost use Rattle.diagram.specs.Sizes.{highest_value};
 ghost use Rattle.diagram.specs.Diagram.{leaf};

@@ -1,4 +1,6 @@
 // What is left of a listing once edges go to leaf 0: formed row by row, written and closed up.
+#![tactic(auto)]
+
 ghost use Rattle.std.specs.Prelude.{◌≡◌, Bool, cond, ◌<◌, length, get_or, eqb};
 ghost use Rattle.diagram.specs.Diagram.{Diagram};
 ghost use Rattle.diagram.specs.Words.{row_count};

@@ -1,4 +1,6 @@
 // The words of a line with a diagram: names resolved, faults found word by word, and the operations that the diagram is built by.
+#![tactic(auto)]
+
 ghost use Rattle.std.specs.Prelude.{◌≡◌, [], ◌∷◌, ◌+◌, ◌*◌, ◌≤◌, ◌<◌, min, length, drop};
 ghost use Rattle.refusal.specs.Outcome.{ok};
 ghost use Rattle.label.specs.Limits.{constant_count, parameter_count, predicate_count, term_end, most_places};

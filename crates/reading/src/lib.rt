@@ -1,4 +1,6 @@
 // What the words of a line with a diagram are. What they come to stands in specs/; crate reader reads them.
+#![tactic(auto)]
+
 use words::Key;
 
 // A variable is a maximum variable, ?name, or a minimum variable, %name.

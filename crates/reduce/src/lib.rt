@@ -1,4 +1,6 @@
 // The public call of a reduction by model checking: the winning paths are found, and every edge on none of them goes to leaf 0.
+#![tactic(auto)]
+
 ghost use Rattle.std.specs.Prelude.{◌≡◌, ◌≢◌, true, suc, ◌+◌, ◌-◌, ◌*◌, ◌^◌, ◌<◌, ◌≤◌, min, length, eqb};
 ghost use Rattle.label.specs.Limits.{leaf_mark, term_end, variable_count};
 ghost use Rattle.label.specs.Callers.{TermMap};

@@ -1,4 +1,6 @@
 // The refusals of documents 01 and 02, by trade word.
+#![tactic(auto)]
+
 ghost use Rattle.std.specs.Prelude.{◌≡◌};
 ghost use Rattle.refusal.specs.Numbers.{number_of};
 

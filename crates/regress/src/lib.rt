@@ -1,4 +1,6 @@
 // The regression call. What it is stands in regression.
+#![tactic(auto)]
+
 ghost use Rattle.std.specs.Prelude.{◌≡◌, true, ◌≤◌, ◌<◌, length};
 ghost use Rattle.diagram.specs.Listing.{diagram_of};
 ghost use Rattle.regression.specs.RegressCall.{written_as, truths_of, regressed_as, regress_answer, regress_result};

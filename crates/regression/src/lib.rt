@@ -1,4 +1,6 @@
 // What regression and freeing answer. What they are stands in specs/.
+#![tactic(auto)]
+
 use refusal::Refusal;
 
 // What a regression answers: the result's rows, or why it is refused.

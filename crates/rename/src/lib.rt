@@ -1,4 +1,6 @@
 // Renaming of listings: closing up, moving apart and freeing.
+#![tactic(auto)]
+
 ghost use Rattle.std.specs.Prelude.{◌≡◌, ◌++◌, ◌<◌, ◌≤◌, length, drop};
 ghost use Rattle.label.specs.Limits.{term_end, parameter_count};
 ghost use Rattle.label.specs.Inner.{map_of};

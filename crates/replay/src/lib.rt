@@ -1,1 +1,2 @@
 // Replay of logged lines. What it is stands in specs/.
+#![tactic(auto)]

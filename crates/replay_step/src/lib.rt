@@ -1,4 +1,6 @@
 // The code of one (did ..) line behind its names and counts: 21, the facts of the next state, the rewards met, count and total. What it is stands in crate replay.
+#![tactic(auto)]
+
 ghost use Rattle.std.specs.Prelude.{◌≡◌, true, ◌+◌, ◌≤◌, eqb};
 ghost use Rattle.diagram.specs.Sizes.{highest_value};
 ghost use Rattle.diagram.specs.Words.{is_listing};

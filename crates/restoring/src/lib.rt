@@ -1,4 +1,6 @@
 // Whether words are a session's, as opening or a line left them. What the test says is in specs/.
+#![tactic(auto)]
+
 ghost use Rattle.std.specs.Prelude.{◌≡◌, true, ◌||◌, ◌+◌, ◌*◌, ◌^◌, ◌≤◌, eqb, leb, length, get_or};
 ghost use Rattle.label.specs.Limits.{predicate_count};
 ghost use Rattle.diagram.specs.Words.{every_below};

@@ -1,4 +1,6 @@
 // The row step in a working space. What it is stands in regression.
+#![tactic(auto)]
+
 ghost use Rattle.std.specs.Prelude.{◌≡◌, ◌-◌, ◌<◌};
 ghost use Rattle.label.specs.Limits.{leaf_mark};
 ghost use Rattle.diagram.specs.Diagram.{leaf, branch};

@@ -1,5 +1,7 @@
 // (start), (value), (backup), (cut), (reduce), (show) and (text): from a line that stands where it may to the session behind it and its answer. What they are stands in
 // crate session, specs/Running and specs/Replies.
+#![tactic(auto)]
+
 ghost use Rattle.std.specs.Prelude.{◌≡◌};
 ghost use Rattle.planner.specs.Inner.{ReplaceTask};
 ghost use Rattle.run_lines.specs.Lines.{running_with, StartTask, ValueTask, BackupTask, TextTask};

@@ -1,4 +1,6 @@
 // Sessions: what a text's lines declare and ask for. What they are stands in specs/.
+#![tactic(auto)]
+
 ghost use Rattle.std.specs.Prelude.{◌≡◌};
 ghost use Rattle.session.specs.Place.{rule_of};
 

@@ -1,4 +1,6 @@
 // A listing as one nested form (document 02, L2): its bytes measured, and written into a lent buffer.
+#![tactic(auto)]
+
 ghost use Rattle.std.specs.Prelude.{◌≡◌, true, ◌++◌, ◌+◌, ◌*◌, ◌<◌, ◌≤◌, max, length};
 ghost use Rattle.label.specs.Limits.{most_places};
 ghost use Rattle.label.specs.Labels.{are_arities, is_label};

@@ -59,6 +59,7 @@ overlay-in : (vs : List ℕ) (θ η : ℕ → ℕ) (t : ℕ) → Memᴰ t vs →
 unfolding overlay
 overlay-in (v ∷ vs) θ η t (Memᴰ.head e) = overlay-kept vs (put θ v (η v)) η t (rw e (put_same θ v (η v)))
 overlay-in (v ∷ vs) θ η t (Memᴰ.tail m) = overlay-in vs (put θ v (η v)) η t m
+overlay-in [] θ η t x' = elim x' [ ]
 
 over : (s : State) (os : List ℕ) (good : Good s) (f : (ℕ → ℕ) → ℕ) (vs : List ℕ) (θ η : ℕ → ℕ) → Fits s os η
     → f (overlay vs θ η) ≤ max_vals s.size vs θ f
@@ -115,6 +116,7 @@ insert-keeps t (v ∷ vs) u m = go (ltb t v) (eqb t v) m (insert-keeps t vs u)
     go false true m r = m
     go false false (Memᴰ.head e) r = Memᴰ.head e
     go false false (Memᴰ.tail n) r = Memᴰ.tail (r n)
+insert-keeps t [] u m = elim m [ ]
 
 vars_of-up : (ts vs : List ℕ) → Each (λ v. first_variable ≤ v) vs → Each (λ v. first_variable ≤ v) (vars_of ts vs)
 unfolding vars_of

@@ -1,4 +1,6 @@
 // States and the value of a diagram in one. What they are stands in specs/.
+#![tactic(auto)]
+
 use label::Label;
 use refusal::Refusal;
 

@@ -1,4 +1,6 @@
 // Lines of the state: from the bytes of a line that stands where it may to the session behind it and the answer.
+#![tactic(auto)]
+
 ghost use Rattle.state_lines.specs.Lines.{ForObjects, ObjectsSays, ForIs, IsSays, ForTrue, TrueSays};
 
 use answers::Answer;

@@ -1,4 +1,6 @@
 // The calls that backups and sums of weights are made of, each with its result in a buffer.
+#![tactic(auto)]
+
 ghost use Rattle.std.specs.Prelude.{◌≡◌, ◌*◌, ◌≤◌, length, take};
 ghost use Rattle.diagram.specs.Sizes.{result_words};
 ghost use Rattle.diagram.specs.Diagram.{leaf};

@@ -1,4 +1,6 @@
 // The working space: rows of diagrams in lent words, equal ones once, with an index over them.
+#![tactic(auto)]
+
 ghost use Rattle.std.specs.Prelude.{◌≡◌};
 ghost use Rattle.diagram.specs.Diagram.{leaf};
 ghost use Rattle.diagram.specs.Validity.{tree};

@@ -1,4 +1,6 @@
 // The unique table: rows of three words in space that the caller lends, no two equal, with a hash index over them.
+#![tactic(auto)]
+
 ghost use Rattle.std.specs.Prelude.{◌≡◌, ◌+◌, ◌*◌, ◌<◌, ◌≤◌, length};
 ghost use Rattle.table.specs.Rows.{row_at, put_at, rows, same_row, first_in};
 ghost use Rattle.table.specs.Table.{buckets, hash_of, Table, Addable, AddPost};

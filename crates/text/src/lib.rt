@@ -1,4 +1,6 @@
 // The kinds of lines and their shapes. What a line is stands in specs/.
+#![tactic(auto)]
+
 use forms::Sort;
 
 // The kinds of lines, and a line that is none.

@@ -1,1 +1,2 @@
 // What (count n) prints, of every text. It stands in specs/.
+#![tactic(auto)]

@@ -1,4 +1,6 @@
 // Whole texts: answered in a lent buffer, or while they are read. What their answers are stands in crate session and in specs/.
+#![tactic(auto)]
+
 ghost use Rattle.std.specs.Prelude.{◌≡◌, ◌||◌, List, ◌∷◌, ℕ, ◌+◌, ◌-◌, ◌<◌, ◌≤◌, length, take, drop};
 ghost use Rattle.answers.specs.declared.Answer.TheVariants.{Refused};
 ghost use Rattle.answers.specs.Answers.{answer_line};

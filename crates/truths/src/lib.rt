@@ -1,4 +1,6 @@
 // Lent truth diagrams: their words, and their checks. What they are stands in regression.
+#![tactic(auto)]
+
 ghost use Rattle.std.specs.Prelude.{◌≡◌, ◌+◌, ◌*◌, ◌-◌, ◌≤◌, ◌<◌, length, get_or, take, drop};
 ghost use Rattle.diagram.specs.Listing.{diagram_of};
 ghost use Rattle.regression.specs.RegressCall.{truths_of, truth_words, are_listings, leaf_above, unbound_variable};

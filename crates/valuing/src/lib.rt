@@ -1,4 +1,6 @@
 // The value call: an index of the facts, a pruned walk over the rows, and the checks before it; and the walk alone, with objects for the parameters, on what is prepared once.
+#![tactic(auto)]
+
 ghost use Rattle.std.specs.Prelude.{◌≡◌, true, false, not, cond, [], suc, ◌+◌, ◌-◌, ◌*◌, ◌^◌, ◌<◌, ◌≤◌, max, length, get_or, eqb, leb};
 ghost use Rattle.label.specs.Limits.{term_end, first_parameter, parameter_count, first_variable, first_minimum};
 ghost use Rattle.diagram.specs.Sizes.{highest_value, most_rows};

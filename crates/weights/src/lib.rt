@@ -1,4 +1,6 @@
 // The weights of a model in lent words, as (start) checks them. What is checked stands in crate session, specs/ModelLines.
+#![tactic(auto)]
+
 ghost use Rattle.std.specs.Prelude.{◌≡◌, [], ◌∷◌, ◌*◌, take};
 ghost use Rattle.diagram.specs.Diagram.{leaf};
 ghost use Rattle.diagram.specs.Listing.{diagram_of};

@@ -1,4 +1,6 @@
 // Bytes, names and numbers: the words of a text, and a name as two machine words.
+#![tactic(auto)]
+
 ghost use Rattle.std.specs.Prelude.{◌≡◌, ◌+◌, ◌≤◌, ◌<◌, length, get_or, drop};
 ghost use Rattle.words.specs.Bytes.{is_letter, is_digit, is_name_byte, run, value_of};
 ghost use Rattle.words.specs.Inner.{name_form};

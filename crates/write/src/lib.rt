@@ -1,4 +1,6 @@
 // Writing a row of the working space as a listing: its rows are numbered by a walk, then written out.
+#![tactic(auto)]
+
 ghost use Rattle.std.specs.Prelude.{◌≡◌, ◌++◌, ◌*◌, ◌≤◌, length, take, drop};
 ghost use Rattle.write.specs.Numbering.{Marked, Unmarked, Unnumbered, Placeable, Placed, Downward, Numbered};
 ghost use Rattle.write.specs.Writing.{renumbered, listed_rows, Renumberable, Emittable, Writable, WritePost};

@@ -1,4 +1,6 @@
 // The program: reads a text from standard input to its end, in blocks, and writes the answers of the lines in hand before it reads on.
+#![tactic(auto)]
+
 ghost use Rattle.std.specs.Prelude.{◌≡◌, false, ◌<◌, ◌≤◌, length};
 ghost use Rattle.answers.specs.Writing.{most_bytes};
 ghost use Rattle.memory.specs.Memory.{memory_of, Rooms, work_words};

@@ -1,20 +1,18 @@
-use native.Mathlib.Omega.{arith}
-use Rattle.words.specs.ByteLaws.{inside}
-use Rattle.forms.specs.Form.{byte}
-use Rattle.std.proofs.lemmas.Grind.{common_steps}
+use borrow.Author.Tests.{eq-eqb, ne_eqb}
+use Rattle.forms.specs.Form.{◌▹◌, byte}
 use Rattle.forms.proofs.byte_after.Goals as goal
 
 pub returns-in_default : goal.returns-in_default
 unfolding ◌▹◌
 returns-in_default c =
-    grind (arith, common_steps, inside)
+    rw c.in_default.is
 
 pub returns-then-byte_at-b : goal.returns-then-byte_at-b
 unfolding ◌▹◌ byte
 returns-then-byte_at-b c =
-    grind (arith, common_steps, inside)
+    rw (c.in-Bytes.is, ← c.byte_at.ensures, eq-eqb _ _ c.if-byte_at-b.true)
 
 pub returns-else-byte_at-b : goal.returns-else-byte_at-b
 unfolding ◌▹◌ byte
 returns-else-byte_at-b c =
-    grind (arith, common_steps, inside)
+    rw (c.in-Bytes.is, ← c.byte_at.ensures, ne_eqb _ _ c.if-byte_at-b.false)

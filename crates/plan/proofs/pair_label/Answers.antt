@@ -1,0 +1,10 @@
+use Rattle.plan.proofs.StepLaws.{label-end, label-lower}
+use Rattle.plan.proofs.pair_label.Goals as goal
+
+pub returns-then-ends : goal.returns-then-ends
+returns-then-ends c =
+    search label-end
+
+pub returns : goal.returns
+returns c =
+    search label-lower
