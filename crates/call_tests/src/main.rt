@@ -6,11 +6,12 @@ ghost use Rattle.std.specs.Prelude.{◌≤◌, ◌<◌, length};
 use apply::{Combined, Names, Operation};
 use cutting::{Cut, Edge};
 use label::{Label, Term};
-use libc::{STDIN_FILENO, STDOUT_FILENO};
 use reduction::Reduced;
 use refusal::Refusal;
 use regression::{Freed, Regressed};
 use state::Valued;
+use std::io;
+use std::io::{Read, Stdin};
 
 // What the result buffer and the working space hold before a call.
 const MARK: u64 = 77;
@@ -21,6 +22,9 @@ const DESK: usize = 42600;
 const SMALL: usize = 64;
 
 const LARGE: usize = 4608;
+
+// Bytes of input that are read at most.
+const TEXT_BYTES: usize = 65536;
 
 // Words of letters, as numbers of base 32: a is 1, b is 2, ..
 const LEAF: u64 = 398374;
@@ -118,17 +122,14 @@ fn end_word(desk: &mut [u64], n: usize, b: u8, word: u64) {
 
 // Puts the words of a line from a place on, and answers where they end.
 fn fill(line: &[u8], desk: &mut [u64], at: usize) -> usize {
-    let mut i = 0;
     let mut n = at;
     let mut high = 0;
     let mut low = 0;
-    while i < line.len() {
-        let b = line[i];
+    for b in line.iter().copied() {
         end_word(desk, n, b, word(high, low));
         n = behind(n, b, high, low);
         high = raised(high, low, b);
         low = with_byte(low, b);
-        i += 1;
     }
     n
 }
@@ -238,87 +239,84 @@ fn grow(desk: &mut [u64], c: Chain) {
     let at = place(c.letter) + 1;
     let n = (c.words as usize) % DESK;
     put_word(desk, (c.letter % 32 + 32) as usize, n as u64);
-    let mut i = 0;
-    while i < n {
+    for i in 0..n {
         put_word(desk, at + i, chain_word(c, i as u64));
-        i += 1;
     }
 }
 
 // Answers: each prints what a call says, and answers how many rows of the result buffer it says to have written.
 
-fn say(text: &[u8], n: u64) {
-    io::write_all(STDOUT_FILENO, text);
-    io::print_decimal(STDOUT_FILENO, n);
+fn say(rt: &impl Print, text: &str, n: u64) -> io::Result<()> {
+    print!(rt; "{text}{n}")
 }
 
-fn tell_refusal(why: Refusal) -> usize {
-    say(b"  refused ", why.number());
-    0
+fn tell_refusal(rt: &impl Print, why: Refusal) -> io::Result<usize> {
+    say(rt, "  refused ", why.number())?;
+    Ok(0)
 }
 
-fn tell_rows(rows: usize) -> usize {
-    say(b"  rows ", rows as u64);
-    rows
+fn tell_rows(rt: &impl Print, rows: usize) -> io::Result<usize> {
+    say(rt, "  rows ", rows as u64)?;
+    Ok(rows)
 }
 
-fn tell_combined(answer: Combined) -> usize {
+fn tell_combined(rt: &impl Print, answer: Combined) -> io::Result<usize> {
     match answer {
         Combined::Done(rows, pairs) => {
-            tell_rows(rows);
-            say(b", pairs ", pairs as u64);
-            rows
+            tell_rows(rt, rows)?;
+            say(rt, ", pairs ", pairs as u64)?;
+            Ok(rows)
         }
-        Combined::Refused(why) => tell_refusal(why),
+        Combined::Refused(why) => tell_refusal(rt, why),
     }
 }
 
-fn tell_regressed(answer: Regressed) -> usize {
+fn tell_regressed(rt: &impl Print, answer: Regressed) -> io::Result<usize> {
     match answer {
-        Regressed::Done(rows) => tell_rows(rows),
-        Regressed::Refused(why) => tell_refusal(why),
+        Regressed::Done(rows) => tell_rows(rt, rows),
+        Regressed::Refused(why) => tell_refusal(rt, why),
     }
 }
 
-fn tell_freed(answer: Freed) -> usize {
+fn tell_freed(rt: &impl Print, answer: Freed) -> io::Result<usize> {
     match answer {
-        Freed::Done(rows) => tell_rows(rows),
-        Freed::Refused(why) => tell_refusal(why),
+        Freed::Done(rows) => tell_rows(rt, rows),
+        Freed::Refused(why) => tell_refusal(rt, why),
     }
 }
 
-fn tell_edge(row: usize, edge: Edge) {
+fn tell_edge(rt: &impl Print, row: usize, edge: Edge) -> io::Result<()> {
     match edge {
-        Edge::True => say(b", true edge of row ", row as u64),
-        Edge::False => say(b", false edge of row ", row as u64),
+        Edge::True => say(rt, ", true edge of row ", row as u64),
+        Edge::False => say(rt, ", false edge of row ", row as u64),
     }
 }
 
-fn tell_cut(answer: Cut) -> usize {
+fn tell_cut(rt: &impl Print, answer: Cut) -> io::Result<usize> {
     match answer {
         Cut::Done(row, edge, rows) => {
-            tell_rows(rows);
-            tell_edge(row, edge);
-            rows
+            tell_rows(rt, rows)?;
+            tell_edge(rt, row, edge)?;
+            Ok(rows)
         }
-        Cut::Refused(why) => tell_refusal(why),
+        Cut::Refused(why) => tell_refusal(rt, why),
     }
 }
 
-fn tell_reduced(answer: Reduced) -> usize {
+fn tell_reduced(rt: &impl Print, answer: Reduced) -> io::Result<usize> {
     match answer {
-        Reduced::Done(rows) => tell_rows(rows),
-        Reduced::Refused(why) => tell_refusal(why),
+        Reduced::Done(rows) => tell_rows(rt, rows),
+        Reduced::Refused(why) => tell_refusal(rt, why),
     }
 }
 
-fn tell_value(answer: Valued) -> usize {
+fn tell_value(rt: &impl Print, answer: Valued) -> io::Result<usize> {
     match answer {
         Valued::Value(v) => {
-            say(b"  value ", v);
-            0
+            say(rt, "  value ", v)?;
+            Ok(0)
         }
-        Valued::Refused(why) => tell_refusal(why),
+        Valued::Refused(why) => tell_refusal(rt, why),
     }
 }
 
@@ -341,12 +339,19 @@ fn names(word: u64) -> Names {
     Names::Shared
 }
 
-fn combine(desk: &[u64], kind: u8, arities: &[u64], out: &mut [u64], work: &mut [u64]) -> usize {
+fn combine(
+    rt: &impl Print,
+    desk: &[u64],
+    kind: u8,
+    arities: &[u64],
+    out: &mut [u64],
+    work: &mut [u64],
+) -> io::Result<usize> {
     let op = operation(kind);
     let how = names(argument(desk, kind, 0));
     let x = register(desk, argument(desk, kind, 1));
     let y = register(desk, argument(desk, kind, 2));
-    tell_combined(combination::combine(op, how, arities, x, y, out, work))
+    tell_combined(rt, combination::combine(op, how, arities, x, y, out, work))
 }
 
 // The first n bytes, or all.
@@ -357,11 +362,22 @@ fn begin(bytes: &[u8], n: usize) -> &[u8] {
     bytes
 }
 
-fn value(desk: &[u64], arities: &[u64], x: &[u64], y: &[u64], z: &[u64]) -> usize {
-    tell_value(valuing::value(arities, x, argument(desk, b'v', 0), y, z))
+fn value(
+    rt: &impl Print,
+    desk: &[u64],
+    arities: &[u64],
+    x: &[u64],
+    y: &[u64],
+    z: &[u64],
+) -> io::Result<usize> {
+    tell_value(
+        rt,
+        valuing::value(arities, x, argument(desk, b'v', 0), y, z),
+    )
 }
 
 fn call(
+    rt: &impl Print,
     desk: &[u64],
     kind: u8,
     arities: &[u64],
@@ -370,24 +386,24 @@ fn call(
     z: &[u64],
     out: &mut [u64],
     work: &mut [u64],
-) -> usize {
+) -> io::Result<usize> {
     if kind == b'v' {
-        return value(desk, arities, x, y, z);
+        return value(rt, desk, arities, x, y, z);
     }
     if kind == b'r' {
-        return tell_regressed(regress::regress(arities, x, y, z, out, work));
+        return tell_regressed(rt, regress::regress(arities, x, y, z, out, work));
     }
     if kind == b'f' {
         let n = argument(desk, b'f', 0);
-        return tell_freed(freeing::free(arities, x, n, out, work));
+        return tell_freed(rt, freeing::free(arities, x, n, out, work));
     }
     if kind == b'c' {
-        return tell_cut(cut::cut(arities, x, out, work));
+        return tell_cut(rt, cut::cut(arities, x, out, work));
     }
     if kind == REDUCE {
-        return tell_reduced(reduce::reduce(arities, x, out, work));
+        return tell_reduced(rt, reduce::reduce(arities, x, out, work));
     }
-    combine(desk, kind, arities, out, work)
+    combine(rt, desk, kind, arities, out, work)
 }
 
 fn least(n: usize, most: usize) -> usize
@@ -401,40 +417,37 @@ fn least(n: usize, most: usize) -> usize
 
 // The result buffer after a call.
 
-fn show_terms(label: u64) {
+fn show_terms(rt: &impl Print, label: u64) -> io::Result<()> {
     let mut unit = FIRST_PLACE;
     while unit > 0 {
-        say(b".", label / unit % Term::BASE);
+        say(rt, ".", label / unit % Term::BASE)?;
         unit /= Term::BASE;
     }
+    Ok(())
 }
 
-fn show_label(label: u64) {
+fn show_label(rt: &impl Print, label: u64) -> io::Result<()> {
     if label == Label::LEAF {
-        io::write_all(STDOUT_FILENO, b": leaf");
-        return;
+        return rt.print(": leaf");
     }
-    say(b": ", label / Label::PREDICATE_WEIGHT);
-    show_terms(label);
+    say(rt, ": ", label / Label::PREDICATE_WEIGHT)?;
+    show_terms(rt, label)
 }
 
-fn show_in_row(i: usize, word: u64) {
+fn show_in_row(rt: &impl Print, i: usize, word: u64) -> io::Result<()> {
     if i % 3 != 0 {
-        say(b" ", word);
-        return;
+        return say(rt, " ", word);
     }
-    say(b"\n  ", (i / 3) as u64);
-    show_label(word);
+    say(rt, "\n  ", (i / 3) as u64)?;
+    show_label(rt, word)
 }
 
 // A word behind the result, or any after a refusal, has to stay; but a run uses what lies behind its value.
-fn tell_changed(kind: u8, i: usize, word: u64) {
-    if word == MARK {
-        return;
+fn tell_changed(rt: &impl Print, kind: u8, i: usize, word: u64) -> io::Result<()> {
+    if word != MARK && kind != b'i' {
+        say(rt, ", but changed is word ", i as u64)?;
     }
-    if kind != b'i' {
-        say(b", but changed is word ", i as u64);
-    }
+    Ok(())
 }
 
 // Results of up to 32 rows are shown whole, of others the last two rows.
@@ -445,28 +458,27 @@ fn first_shown(end: usize) -> usize {
     end - 6
 }
 
-fn show_word(kind: u8, i: usize, end: usize, word: u64) {
+fn show_word(rt: &impl Print, kind: u8, i: usize, end: usize, word: u64) -> io::Result<()> {
     if i >= end {
-        tell_changed(kind, i, word);
-        return;
+        return tell_changed(rt, kind, i, word);
     }
     if i >= first_shown(end) {
-        show_in_row(i, word);
+        show_in_row(rt, i, word)?;
     }
+    Ok(())
 }
 
-fn show(kind: u8, out: &[u64], rows: usize) {
+fn show(rt: &impl Print, kind: u8, out: &[u64], rows: usize) -> io::Result<()> {
     let end = rows % DESK * 3;
-    let mut i = 0;
-    while i < out.len() {
-        show_word(kind, i, end, out[i]);
-        i += 1;
+    for (i, word) in out.iter().enumerate() {
+        show_word(rt, kind, i, end, *word)?;
     }
-    io::write_all(STDOUT_FILENO, b"\n");
+    rt.print("\n")
 }
 
 // A call in the first n and m words of two buffers.
 fn lend(
+    rt: &impl Print,
     desk: &[u64],
     kind: u8,
     arities: &[u64],
@@ -477,10 +489,11 @@ fn lend(
     m: usize,
     out: &mut [u64],
     work: &mut [u64],
-) -> usize {
+) -> io::Result<usize> {
     let k = least(n, out.len());
     let l = least(m, work.len());
     call(
+        rt,
         desk,
         kind,
         arities,
@@ -493,7 +506,7 @@ fn lend(
 }
 
 // A call in buffers as long as register b says.
-fn answer(desk: &[u64], kind: u8) {
+fn answer(rt: &impl Print, desk: &[u64], kind: u8) -> io::Result<()> {
     let arities = register(desk, 1);
     let x = register(desk, 24);
     let y = register(desk, 25);
@@ -502,8 +515,8 @@ fn answer(desk: &[u64], kind: u8) {
     let m = argument(desk, b'b', 1) as usize;
     let mut out = [MARK; 3073];
     let mut work = [MARK; 6145];
-    let rows = lend(desk, kind, arities, x, y, z, n, m, &mut out, &mut work);
-    show(kind, &out, rows);
+    let rows = lend(rt, desk, kind, arities, x, y, z, n, m, &mut out, &mut work)?;
+    show(rt, kind, &out, rows)
 }
 
 // Lines.
@@ -515,15 +528,16 @@ fn is_call(kind: u8) -> bool {
     kind < b'w'
 }
 
-fn echo(line: &[u8]) {
-    io::write_all(STDOUT_FILENO, line);
+fn echo(rt: &impl Print, line: &[u8]) -> io::Result<()> {
+    rt.write_all(line)
 }
 
 // Empty lines and lines with # are printed, others that begin with no letter are not.
-fn comment(line: &[u8], kind: u8) {
+fn comment(rt: &impl Print, line: &[u8], kind: u8) -> io::Result<()> {
     if kind <= b'#' {
-        echo(line);
+        echo(rt, line)?;
     }
+    Ok(())
 }
 
 // How many words a line has behind its first, by where they began and ended.
@@ -533,22 +547,22 @@ fn counted(at: usize, end: usize) -> u64
     ((end % 50000 + 49999 - at) % 50000) as u64
 }
 
-fn run_line(line: &[u8], desk: &mut [u64], kind: u8) {
+fn run_line(rt: &impl Print, line: &[u8], desk: &mut [u64], kind: u8) -> io::Result<()> {
     if kind < b'A' {
-        comment(line, kind);
-        return;
+        return comment(rt, line, kind);
     }
     let at = place(kind as u64);
     let end = fill(line, desk, at);
     put_word(desk, (kind % 64) as usize, counted(at, end));
     if kind == b'w' {
         grow(desk, asked_chain(desk));
-        return;
+        return Ok(());
     }
     if is_call(kind) {
-        echo(line);
-        answer(desk, kind);
+        echo(rt, line)?;
+        answer(rt, desk, kind)?;
     }
+    Ok(())
 }
 
 // How many bytes the first line has, its end with it.
@@ -557,14 +571,10 @@ fn size(rest: &[u8]) -> usize
     ensures result_nonzero { 0 < result }
     ensures upper_bound { result ≤ length rest.now }
 {
-    let mut i = 0;
-    while i < rest.len() {
-        if rest[i] == 10 {
-            return i + 1;
-        }
-        i += 1;
+    match rest.iter().position(|b| *b == b'\n') {
+        Some(i) => i + 1,
+        None => rest.len(),
     }
-    i
 }
 
 // The kind of a line: its first letter.
@@ -584,19 +594,35 @@ fn kind_of(line: &[u8]) -> u8
     first
 }
 
-fn run(text: &[u8], desk: &mut [u64]) {
+fn run(rt: &impl Print, text: &[u8], desk: &mut [u64]) -> io::Result<()> {
     let mut at = 0;
     while at < text.len() {
         let rest = &text[at..];
         let n = size(rest);
-        run_line(begin(rest, n), desk, kind_of(rest));
+        run_line(rt, begin(rest, n), desk, kind_of(rest))?;
         at += n;
     }
+    Ok(())
 }
 
-fn main() {
-    let mut text = io::large_buffer();
+// Reads until the buffer is full, the input ends or a read fails, and answers how many bytes it put at the start of the buffer.
+fn read_full(mut stdin: Stdin, text: &mut [u8]) -> usize
+    ensures { result ≤ length text.new }
+{
+    let mut done = 0;
+    while done < text.len() {
+        match stdin.read(&mut text[done..]) {
+            Ok(0) => break,
+            Ok(n) => done += n,
+            Err(_) => break,
+        }
+    }
+    done
+}
+
+fn main(rt: HostRuntime) -> io::Result<()> {
+    let mut text = [0u8; TEXT_BYTES];
     let mut desk = [0u64; DESK];
-    let n = io::read_full(STDIN_FILENO, &mut text);
-    run(&text[..n], &mut desk);
+    let n = read_full(rt.stdin(), &mut text);
+    run(&rt, &text[..n], &mut desk)
 }

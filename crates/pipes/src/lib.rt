@@ -4,7 +4,7 @@
 ghost use Rattle.std.specs.Prelude.{◌≡◌, ◌+◌, ◌≤◌, ◌<◌, length};
 ghost use Rattle.pipes.specs.Tally.{started, is_open, is_ended, is_unread, counted, stopped, Reads, Writes};
 
-use libc::{STDERR_FILENO, STDIN_FILENO, STDOUT_FILENO};
+use std::io::{Read, Stderr, Stdin, Stdout, Write};
 
 // Whether input and output go on; or the input has ended, a read failed, a write failed, or more bytes were read than a number counts.
 #[derive(Clone, Copy)]
@@ -111,8 +111,8 @@ fn add_read(t: Tally, n: usize) -> Tally
     }
 }
 
-// One read into a block behind its first bytes, where there is room.
-pub fn read(t: Tally, block: &mut [u8], from: usize) -> Tally
+// One read of standard input into a block behind its first bytes, where there is room.
+pub fn read(mut stdin: Stdin, t: Tally, block: &mut [u8], from: usize) -> Tally
     requires { from < length block.old }
     ensures { Reads t block.old from result block.new }
 {
@@ -120,25 +120,21 @@ pub fn read(t: Tally, block: &mut [u8], from: usize) -> Tally
     if u64::MAX - t.read <= free as u64 {
         return stop(t, Flow::TooLong);
     }
-    let got = libc::read(STDIN_FILENO, &mut block[from..]);
-    let n = io::count(got, &block[from..]);
-    if n != 0 {
-        return add_read(t, n);
+    match stdin.read(&mut block[from..]) {
+        Ok(0) => stop(t, Flow::Ended),
+        Ok(n) => add_read(t, n),
+        Err(_) => stop(t, Flow::Unread),
     }
-    if got < 0 {
-        return stop(t, Flow::Unread);
-    }
-    stop(t, Flow::Ended)
 }
 
-// Writes bytes; more of them than a number counts are not written.
-pub fn write(t: Tally, bytes: &[u8]) -> Tally
+// Writes bytes to standard output; more of them than a number counts are not written.
+pub fn write(mut stdout: Stdout, t: Tally, bytes: &[u8]) -> Tally
     ensures { Writes t (length bytes.now) result }
 {
     if u64::MAX - t.written < bytes.len() as u64 {
         return stop(t, Flow::Unwritten);
     }
-    if !io::write_all(STDOUT_FILENO, bytes) {
+    if stdout.write_all(bytes).is_err() {
         return stop(t, Flow::Unwritten);
     }
     let flow = t.flow;
@@ -150,7 +146,7 @@ pub fn write(t: Tally, bytes: &[u8]) -> Tally
     }
 }
 
-// Says on descriptor 2 that a read failed.
-pub fn say_unread() {
-    io::write_all(STDERR_FILENO, b"yindolve: the input cannot be read\n");
+// Says on standard error that a read failed; where that cannot be written, nothing more is done.
+pub fn say_unread(mut stderr: Stderr) {
+    let _ = stderr.write_all(b"yindolve: the input cannot be read\n");
 }

@@ -27,7 +27,7 @@ struct Refilled {
 }
 
 // Reads on behind the bytes in hand, where there is no whole line among them.
-fn refill(t: Tally, block: &mut [u8], rest: Rest) -> Refilled
+fn refill(rt: HostRuntime, t: Tally, block: &mut [u8], rest: Rest) -> Refilled
     requires count_in_bounds { rest.whole ≡ false → rest.count < length block.old }
     requires count_in_bounds_2 { rest.count ≤ length block.old }
     ensures { Refills t rest block.old result block.new }
@@ -36,7 +36,7 @@ fn refill(t: Tally, block: &mut [u8], rest: Rest) -> Refilled
     if rest.whole {
         return Refilled { tally: t, n: from };
     }
-    let u = pipes::read(t, block, from);
+    let u = pipes::read(rt.stdin(), t, block, from);
     let more = pipes::last(u);
     let n = from + more;
     Refilled { tally: u, n: n }
@@ -55,15 +55,15 @@ fn emptied(p: Position) -> Position
     }
 }
 
-// Where the input ended, the answer of its end; where it could not be read, a line on descriptor 2.
-fn finish(t: Tally, count: usize, p: Position, out: &mut [u8]) -> Tally
+// Where the input ended, the answer of its end; where it could not be read, a line on standard error.
+fn finish(rt: HostRuntime, t: Tally, count: usize, p: Position, out: &mut [u8]) -> Tally
     requires end_value { p.end ≡ 0 }
     requires lines_lt_most_lines { p.lines < most_lines }
     requires most_bytes_in_bounds { most_bytes ≤ length out.old }
     ensures { Finishes t count p out.old result }
 {
     if pipes::is_unread(t) {
-        pipes::say_unread();
+        pipes::say_unread(rt.stderr());
         return t;
     }
     if !pipes::is_ended(t) {
@@ -72,11 +72,12 @@ fn finish(t: Tally, count: usize, p: Position, out: &mut [u8]) -> Tally
     let Ran::Done(n) = texts::end(count, p, out) else {
         return t;
     };
-    pipes::write(t, &out[..n])
+    pipes::write(rt.stdout(), t, &out[..n])
 }
 
 // Answers the input: reads, answers the whole lines in hand, writes their answers, until the input ends.
 fn answer_input(
+    rt: HostRuntime,
     names: &mut [u64],
     arities: &mut [u64],
     listings: &mut [u64],
@@ -101,7 +102,7 @@ fn answer_input(
     };
     let mut open = true;
     while open {
-        let f = refill(t, block, rest);
+        let f = refill(rt, t, block, rest);
         let n = f.n;
         let r = texts::answer_whole(
             &block[..n],
@@ -119,15 +120,15 @@ fn answer_input(
         );
         let q = r.position;
         let end = q.end;
-        t = pipes::write(f.tally, &out[..end]);
+        t = pipes::write(rt.stdout(), f.tally, &out[..end]);
         p = emptied(q);
         rest = texts::keep_rest(block, r.at, n);
         open = pipes::is_open(t);
     }
-    finish(t, rest.count, p, out)
+    finish(rt, t, rest.count, p, out)
 }
 
-fn main() {
+fn main(rt: HostRuntime) {
     let mut names = [0u64; names::WORDS];
     let mut arities = [0u64; Label::PREDICATES];
     let mut listings = [0u64; model::LISTING_WORDS];
@@ -138,6 +139,7 @@ fn main() {
     let mut block = [0u8; BLOCK_BYTES];
     let mut out = [0u8; OUT_BYTES];
     answer_input(
+        rt,
         &mut names,
         &mut arities,
         &mut listings,
