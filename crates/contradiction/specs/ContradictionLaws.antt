@@ -33,6 +33,7 @@ some_out f (l ∷ ls) e = go (either (f l) (some_literal f ls) e) (some_out f ls
     go (other q) ih = let r = ih q in (r.0, Memᴰ.tail r.1, r.2)
 
 pub some_in : (f : Literal → Bool) (ls : List Literal) (l : Literal) → Memᴰ l ls → f l ≡ true → some_literal f ls ≡ true
+some_in f [] l x'' q = elim x'' [ ]
 some_in f (k ∷ ls) l (Memᴰ.head e) q = or-one (f k) (some_literal f ls) (ap f (sym e) ∙ q)
 some_in f (k ∷ ls) l (Memᴰ.tail m) q = or-other (f k) (some_literal f ls) (some_in f ls l m q)
 

@@ -156,6 +156,7 @@ step-terms P ar s p e k = record { each = at }
 
 path-terms : (P : ℕ → Type 0) (ar : List ℕ) (d : Diagram) → Terms P (meaning ar d) → (p : Path) → Memᴰ p (paths d) → PathTerms P ar p
 unfolding paths literals meaning relabel atom_of
+path-terms P ar (leaf v) f p (Memᴰ.tail x6) = elim x6 [ ]
 path-terms P ar (leaf v) f p (Memᴰ.head e) = rw e (record { each = λ l m. absurd (Memᴰ.not-nil m) })
 path-terms P ar (branch l t g) f p m = go (Memᴰ.append_cases (map (step_before high) (paths t)) m) (path-terms P ar t f.1) (path-terms P ar g f.2)
   where

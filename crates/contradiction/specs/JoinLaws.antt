@@ -107,6 +107,7 @@ both-joined t u r = joining-here t u r t refl ∙ sym (go (flag (eqb (r u) (r t)
 
 pub named-one : (ar : List ℕ) (ls : List Literal) (l : Literal) (t u : ℕ) → Memᴰ l ls → l.sign ≡ true → Equates ar l t u
     → representative ar ls t ≡ representative ar ls u
+named-one ar [] l t u x3 s n = elim x3 [ ]
 named-one ar (k ∷ ls) l t u (Memᴰ.head e) s n =
     let q = literal-names ar k t u (sym (ap (λ (m : Literal). m.sign) e) ∙ s) (subst (λ (m : Literal). Equates ar m t u) e n) (representative ar ls) in
     representative-more ar k ls t ∙ q t ∙ both-joined t u (representative ar ls) ∙ sym (q u) ∙ sym (representative-more ar k ls u)

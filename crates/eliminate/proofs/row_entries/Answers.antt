@@ -10,24 +10,8 @@ pub cases-count-requires-clause-m_le_most_entries : goal.cases-count-requires-cl
 cases-count-requires-clause-m_le_most_entries c =
     row-choices c.requires c.size-whole.ensures c.if-whole-gt-ENTRIES.false c.size-choices.ensures
 
-pub overflow_mul-yes : goal.overflow_mul-yes
-overflow_mul-yes c =
-    search (rules, row-large, row-choices, row-shrinks, row-less, row-yes, row-no, row-exact)
-
 pub overflow_sub-no : goal.overflow_sub-no
 overflow_sub-no c =
-    search (rules, row-large, row-choices, row-shrinks, row-less, row-yes, row-no, row-exact)
-
-pub overflow_add-result : goal.overflow_add-result
-overflow_add-result c =
-    search (rules, row-large, row-choices, row-shrinks, row-less, row-yes, row-no, row-exact)
-
-pub overflow_add-result-2 : goal.overflow_add-result-2
-overflow_add-result-2 c =
-    search (rules, row-large, row-choices, row-shrinks, row-less, row-yes, row-no, row-exact)
-
-pub overflow_add-result-3 : goal.overflow_add-result-3
-overflow_add-result-3 c =
     search (rules, row-large, row-choices, row-shrinks, row-less, row-yes, row-no, row-exact)
 
 pub returns : goal.returns

@@ -1,0 +1,10 @@
+use Rattle.write.proofs.RenameLaws.{word-leaf, word-branch}
+use Rattle.write.proofs.word_after.Goals as goal
+
+pub returns-then-x-eq-LEAF : goal.returns-then-x-eq-LEAF
+returns-then-x-eq-LEAF c =
+    search word-leaf
+
+pub returns : goal.returns
+returns c =
+    search word-branch
