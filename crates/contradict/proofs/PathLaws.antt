@@ -92,6 +92,7 @@ mem_below : (m k : ℕ) → Memᴰ k (up_to m) → k < m
 mem_below m k i = in-up_to k m (has (up_to m) k i)
   where
     has : (l : List ℕ) (x : ℕ) → Memᴰ x l → mem eqb x l ≡ true
+    has [] x x3 = elim x3 [ ]
     has (y ∷ l) x (Memᴰ.head e) = or-one (eqb x y) (mem eqb x l) (eq-eqb x y e)
     has (y ∷ l) x (Memᴰ.tail i) = go (eqb x y) (has l x i)
       where

@@ -174,6 +174,8 @@ module _ (ar : List ℕ) (d : Diagram) where
   -- every consistent choice of one path for each valuation
   pub choices-in : (us : List (List ℕ)) (ks : List ℕ) → Tuple (length (paths d)) (length us) ks → is_consistent ar d us ks ≡ true → Memᴰ ks (choices ar d us)
   unfolding choices is_consistent facts
+  choices-in [] (k ∷ ks) x4 e = elim x4 [ ]
+  choices-in (os ∷ us) [] x4 e = elim x4 [ ]
   choices-in [] [] none e = Memᴰ.head refl
   choices-in (os ∷ us) (k ∷ ks) (more h t) e =
       gather-in (λ js. those (is_consistent ar d (os ∷ us)) (map (λ i. i ∷ js) (up_to (length (paths d))))) (choices ar d us) ks (k ∷ ks)

@@ -1,7 +1,7 @@
 -- Edges that go to leaf 0: no leaf rises, a path whose edges all stay is followed as before, and what is left has a listing. In a cut one edge goes.
 use Rattle.std.specs.Prelude.{◌≡◌, ◌⊎◌, Bool, not, ◌&&◌, ℕ, suc, ◌≤◌}
 use Rattle.std.proofs.Math.Path.{refl, sym, ap₂}
-use Rattle.std.proofs.Common.{ap, ◌∙◌, subst, inl, inr}
+use Rattle.std.proofs.Common.{[], ap, ◌∙◌, subst, inl, inr}
 use Rattle.std.proofs.Math.Bool.{true, false, cond}
 use Rattle.std.specs.Bool.{beq}
 use mathlib.Core.List.Memᴰ
@@ -52,10 +52,15 @@ module _ (stays : Diagram → Bool → Bool) (c : ℕ → Bool) where
   keeping_step l t f true e k = rw (e, k)
   keeping_step l t f false e k = rw (e, k)
 
+  keeping-leaf : (v : ℕ) (p : Path) → p ≡ record { steps = []; end = v } → eval c (keeping stays (leaf v)) ≡ p.end
+  unfolding keeping eval
+  keeping-leaf v p e = rw e refl
+
   -- truths that follow such a path still reach its leaf
   pub keeping-follows : (d : Diagram) (p : Path) → Memᴰ p (paths d) → Follows c p → Stays stays p → eval c (keeping stays d) ≡ p.end
   unfolding paths
-  keeping-follows (leaf v) p (Memᴰ.head e) fo st = rw e (unfold keeping eval in refl)
+  keeping-follows (leaf v) p (Memᴰ.head e) fo st = keeping-leaf v p e
+  keeping-follows (leaf v) p (Memᴰ.tail x9) fo st = elim x9 [ ]
   keeping-follows (branch l t f) p m fo st =
       go (Memᴰ.append_cases (map (step_before (step_on true l t f)) (paths t)) m) (keeping-follows t) (keeping-follows f)
     where
@@ -91,6 +96,7 @@ side_same false = refl
 
 on_step : (s : Step) (ss : List Step) → Memᴰ s ss → some_step (is_edge s.from s.side) ss ≡ true
 unfolding is_edge
+on_step s mathlib.Core.List.[] x' = elim x' [ ]
 on_step s (x ∷ ss) (Memᴰ.head e) = or-one (is_edge s.from s.side x) _ (rw (← e) (rw (same_refl s.from, side_same s.side)))
 on_step s (x ∷ ss) (Memᴰ.tail n) = or-other (is_edge s.from s.side x) _ (on_step s ss n)
 

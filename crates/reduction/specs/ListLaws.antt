@@ -13,6 +13,7 @@ use Rattle.reduction.specs.Inner.{Once}
 
 -- ===== Members =====
 pub gather-in : {A B : Type 0} (f : A → List B) (l : List A) (a : A) (b : B) → Memᴰ a l → Memᴰ b (f a) → Memᴰ b (gather f l)
+gather-in {A = A} {B = B} f [] a b x'' n = elim x'' [ ]
 gather-in f (x ∷ l) a b (Memᴰ.head e) n = Memᴰ.append_left (gather f l) (subst (λ z. Memᴰ b (f z)) e n)
 gather-in f (x ∷ l) a b (Memᴰ.tail m) n = Memᴰ.append_right (f x) (gather-in f l a b m n)
 
@@ -26,6 +27,7 @@ in-gather {A} f (x ∷ l) b m = go (Memᴰ.append_cases (f x) m) (in-gather f l 
     go (inr n) ih = let r = ih n in (r.0, Memᴰ.tail r.1, r.2)
 
 pub those-in : {A : Type 0} (p : A → Bool) (l : List A) (a : A) → Memᴰ a l → p a ≡ true → Memᴰ a (those p l)
+those-in {A = A} p [] a m e = elim m [ ]
 those-in {A} p (x ∷ l) a m e = go (p x) refl m (those-in p l a)
   where
     go : (b : Bool) → p x ≡ b → Memᴰ a (x ∷ l) → (Memᴰ a l → p a ≡ true → Memᴰ a (those p l)) → Memᴰ a (cond b (x ∷ those p l) (those p l))
@@ -45,6 +47,7 @@ in-those p (x ∷ l) a m = go (p x) refl m (in-those p l a)
     go false q n ih = let r = ih n in (Memᴰ.tail r.0, r.1)
 
 pub some_of-in : {A : Type 0} (p : A → Bool) (l : List A) (a : A) → Memᴰ a l → p a ≡ true → some_of p l ≡ true
+some_of-in {A = A} p [] a x'' e = elim x'' [ ]
 some_of-in p (x ∷ l) a (Memᴰ.head z) e = or-one (p x) (some_of p l) (sym (ap p z) ∙ e)
 some_of-in p (x ∷ l) a (Memᴰ.tail n) e = or-other (p x) (some_of p l) (some_of-in p l a n e)
 
@@ -75,11 +78,13 @@ in-up_to (suc n) k m = go (Memᴰ.append_cases (up_to n) m) (in-up_to n k)
     go (inr (Memᴰ.tail i)) ih = absurd (Memᴰ.not-nil i)
 
 pub reverse-in : {A : Type 0} (l : List A) (a : A) → Memᴰ a l → Memᴰ a (reverse l)
+reverse-in {A = A} [] a x' = elim x' [ ]
 reverse-in (x ∷ l) a (Memᴰ.head e) = subst (Memᴰ a) (sym (reverse-cons x l)) (Memᴰ.append_right (reverse l) (Memᴰ.head e))
 reverse-in (x ∷ l) a (Memᴰ.tail m) = subst (Memᴰ a) (sym (reverse-cons x l)) (Memᴰ.append_left (x ∷ []) (reverse-in l a m))
 
 -- the place of a member
 pub place_of : {A : Type 0} (x a : A) (l : List A) → Memᴰ a l → (k : ℕ) × (k < length l) × (get_or l k x ≡ a)
+place_of {A = A} x a [] x'' = elim x'' [ ]
 place_of x a (y ∷ l) (Memᴰ.head e) = (0, omega arith, sym e)
 place_of x a (y ∷ l) (Memᴰ.tail m) = let r = place_of x a l m in (suc r.0, omega (arith, r.1), r.2)
 

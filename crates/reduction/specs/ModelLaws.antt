@@ -56,6 +56,7 @@ literals-step P s p e k = record { each = at }
 literals-every : (P : ℕ → Type 0) (d : Diagram) → EveryLabel P d → (p : Path) → Memᴰ p (paths d) → Literals P p
 unfolding paths literals
 literals-every P (leaf v) h p (Memᴰ.head e) = rw e (record { each = λ l m. absurd (Memᴰ.not-nil m) })
+literals-every P (leaf v) h p (Memᴰ.tail x6) = elim x6 [ ]
 literals-every P (branch l t f) h p m =
     go (Memᴰ.append_cases (map (step_before (step_on true l t f)) (paths t)) m) (literals-every P t h.1) (literals-every P f h.2)
   where

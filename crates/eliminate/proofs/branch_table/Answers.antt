@@ -1,4 +1,3 @@
-use borrow.Author.Rules.{rules}
 use native.Mathlib.Omega.{arith}
 use Rattle.eliminate.proofs.BranchLaws.{branch-labelled, branch-high, branch-low, branch-rowing, branch-full, branch-filling, branch-done}
 use Rattle.eliminate.proofs.branch_table.Goals as goal
@@ -65,8 +64,8 @@ returns-then-e-used c =
 
 pub fill-requires : goal.fill-requires
 fill-requires c =
-    search (rules, branch-labelled, branch-high, branch-low, branch-rowing, branch-full, branch-filling, branch-done)
+    branch-filling c.requires c.variables-own.result c.variables-own.ensures _ c.row_entries-e.ensures c.if-e-used.false c.size-count.ensures c.size.ensures
 
 pub returns : goal.returns
 returns c =
-    search (rules, branch-labelled, branch-high, branch-low, branch-rowing, branch-full, branch-filling, branch-done)
+    branch-done c.requires c.variables-own.result c.variables-own.ensures _ c.row_entries-e.ensures c.if-e-used.false c.size-count.ensures c.size.ensures c.fill.ensures

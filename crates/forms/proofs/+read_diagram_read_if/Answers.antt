@@ -58,7 +58,7 @@ module _ (s : List ℕ) {a : Took} (h : a ≡ head_form s) where
   middle d q y z x e = rw (← left d q y z, ← x, e)
 
 -- the place behind the space
-module _ (s : List ℕ) {a b : Took} (x : b ≡ a ▹ byte s 32) where
+module _ (s : List ℕ) (a : Took) {b : Took} (x : b ≡ a ▹ byte s 32) where
   room-2 : {j : ℕ} → b ≡ Bytes j → (1 ≤ j) × (j ≤ length s)
   room-2 q = let e = sym x ∙ q in (ends-pos _ _ 32 e, ends-within _ _ 32 (omega arith) e)
 
@@ -150,14 +150,14 @@ read_if-returns-in_default-byte_after t c f h =
     (c.read_diagram.ensures f (omega (arith, l))) c.in-Bytes-read_diagram.is c.byte_after.ensures c.in_default-byte_after.is
 
 pub read_if-slice_bounds-read_diagram-count-2 : goal.read_if-slice_bounds-read_diagram-count-2
-read_if-slice_bounds-read_diagram-count-2 t c = (room-2 c.args.s.now c.byte_after.ensures c.in-Bytes-byte_after.is).1
+read_if-slice_bounds-read_diagram-count-2 t c = (room-2 c.args.s.now _ c.byte_after.ensures c.in-Bytes-byte_after.is).1
 
 pub read_if-slice_bounds-read_diagram-start-2 : goal.read_if-slice_bounds-read_diagram-start-2
-read_if-slice_bounds-read_diagram-start-2 t c = omega (arith, room-2 c.args.s.now c.byte_after.ensures c.in-Bytes-byte_after.is)
+read_if-slice_bounds-read_diagram-start-2 t c = omega (arith, room-2 c.args.s.now _ c.byte_after.ensures c.in-Bytes-byte_after.is)
 
 pub read_if-read_diagram-requires-2 : goal.read_if-read_diagram-requires-2
 read_if-read_diagram-requires-2 t c =
-    (omega (arith, c.decreases, right-less c.args.s.now c.byte_after.ensures c.in-Bytes-byte_after.is), tt)
+    (omega (arith, c.decreases, right-less c.args.s.now _ c.byte_after.ensures c.in-Bytes-byte_after.is), tt)
 
 pub read_if-returns-in_default-read_diagram-2 : goal.read_if-returns-in_default-read_diagram-2
 unfolding ◌▹◌
@@ -165,7 +165,7 @@ read_if-returns-in_default-read_diagram-2 t c f h =
     let s = c.args.s.now in
     let d = diagram_form f (c.args.depth + 1) in
     let l = left-less s c.if_head.ensures c.in-Bytes.is in
-    let k = right-less s c.byte_after.ensures c.in-Bytes-byte_after.is in
+    let k = right-less s (Bytes (c.in-Bytes.i + c.in-Bytes-read_diagram.n)) c.byte_after.ensures c.in-Bytes-byte_after.is in
     let m = middle s c.if_head.ensures d c.in-Bytes.is (c.read_diagram.ensures f (omega (arith, l))) c.in-Bytes-read_diagram.is
     c.byte_after.ensures c.in-Bytes-byte_after.is in
     right d s c.in-Bytes-byte_after.j m (c.read_diagram-2.ensures f (omega (arith, k))) c.in_default-read_diagram-2.is
@@ -173,8 +173,8 @@ read_if-returns-in_default-read_diagram-2 t c f h =
 pub read_if-overflow_add-k : goal.read_if-overflow_add-k
 read_if-overflow_add-k t c =
     let s = c.args.s.now in
-    let l = right-less s c.byte_after.ensures c.in-Bytes-byte_after.is in
-    let k = (room-2 s c.byte_after.ensures c.in-Bytes-byte_after.is).1 in
+    let l = right-less s (Bytes (c.in-Bytes.i + c.in-Bytes-read_diagram.n)) c.byte_after.ensures c.in-Bytes-byte_after.is in
+    let k = (room-2 s _ c.byte_after.ensures c.in-Bytes-byte_after.is).1 in
     omega (
       arith,
       c.well_formed,
@@ -187,7 +187,7 @@ read_if-returns t c f h =
     let s = c.args.s.now in
     let d = diagram_form f (c.args.depth + 1) in
     let l = left-less s c.if_head.ensures c.in-Bytes.is in
-    let k = right-less s c.byte_after.ensures c.in-Bytes-byte_after.is in
+    let k = right-less s (Bytes (c.in-Bytes.i + c.in-Bytes-read_diagram.n)) c.byte_after.ensures c.in-Bytes-byte_after.is in
     let m = middle s c.if_head.ensures d c.in-Bytes.is (c.read_diagram.ensures f (omega (arith, l))) c.in-Bytes-read_diagram.is
     c.byte_after.ensures c.in-Bytes-byte_after.is in
     let r = right d s c.in-Bytes-byte_after.j m (c.read_diagram-2.ensures f (omega (arith, k))) c.in-Bytes-read_diagram-2.is in

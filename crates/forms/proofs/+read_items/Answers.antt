@@ -76,7 +76,7 @@ overflow_add-j t c =
       arith,
       c.well_formed,
       within c.args.s.now c.args.sort c.byte_at.ensures c.if-byte_at-ne32.false c.item_after.ensures c.in-Bytes.is
-      c.rest.ensures c.read_items.ensures c.in-Bytes-read_items.is,
+          c.rest.ensures c.read_items.ensures c.in-Bytes-read_items.is,
     )
 
 pub returns : goal.returns

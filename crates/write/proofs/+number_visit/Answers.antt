@@ -1,5 +1,5 @@
 use native.Mathlib.Omega.{arith}
-use Rattle.write.proofs.NumberLaws.{less-high, less-low, down-high, down-low, number-old, number-first, leaf-placeable, number-leaf, branch-placeable, number-branch}
+use Rattle.write.proofs.NumberLaws.{less-high, less-low, down-high, down-low, number-old, leaf-placeable, number-leaf, branch-placeable, number-branch}
 use Rattle.write.proofs.+number_visit.Goals as goal
 
 pub number-place-requires : goal.number-place-requires

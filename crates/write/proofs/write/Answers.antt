@@ -1,5 +1,4 @@
-use borrow.Author.Rules.{rules}
-use Rattle.write.proofs.ResultLaws.{write-down, write-start, write-emittable, write-many, write-rows}
+use Rattle.write.proofs.ResultLaws.{write-down, write-emittable, write-many, write-rows}
 use Rattle.write.proofs.write.Goals as goal
 
 pub number-m-requires-clause-downward : goal.number-m-requires-clause-downward

@@ -1,0 +1,31 @@
+use Rattle.apart.proofs.JoinLaws.{join-pairable, join-writable, join-again, join-joined, join-done, join-high, join-full}
+use lib.Dec.{lit≤}
+use Rattle.apart.proofs.join.Goals as goal
+
+pub join_rows-joined-requires-clause-pairable : goal.join_rows-joined-requires-clause-pairable
+join_rows-joined-requires-clause-pairable c =
+    join-pairable c.requires 320 1600 4096 (lit≤ tt) (lit≤ tt) (lit≤ tt)
+
+pub write_result-requires : goal.write_result-requires
+write_result-requires c =
+    join-writable c.requires (lit≤ tt) c.join_rows-joined.ensures c.in-At.is
+
+pub join_many-requires-in-TooManyPairs : goal.join_many-requires-in-TooManyPairs
+join_many-requires-in-TooManyPairs c =
+    join-again c.requires (lit≤ tt) c.join_rows-joined.ensures c.in-TooManyPairs.is
+
+pub returns-in-At : goal.returns-in-At
+returns-in-At c =
+    join-done c.requires (lit≤ tt) c.join_rows-joined.ensures c.in-At.is c.write_result.ensures
+
+pub returns-in-TooManyPairs : goal.returns-in-TooManyPairs
+returns-in-TooManyPairs c =
+    join-joined c.requires (lit≤ tt) c.join_rows-joined.ensures c.in-TooManyPairs.is c.join_many-in-TooManyPairs.ensures
+
+pub returns-in-TooHighValue : goal.returns-in-TooHighValue
+returns-in-TooHighValue c =
+    join-high c.requires (lit≤ tt) c.join_rows-joined.ensures c.in-TooHighValue.is
+
+pub returns-in-NoRoom : goal.returns-in-NoRoom
+returns-in-NoRoom c =
+    join-full c.requires (lit≤ tt) c.join_rows-joined.ensures c.in-NoRoom.is

@@ -1,0 +1,10 @@
+use Prim.Native.Nat.{◌≤◌, ◌-◌}
+use Rattle.label.specs.Limits.{variable_count}
+use Rattle.matcher.specs.Failure.{Copied}
+use Rattle.matcher.proofs.copy.Given as goal
+
+abbrev pub invariant-loop-i : goal.invariant-loop-i
+invariant-loop-i l = (l.i ≤ variable_count) × Copied l.theta l.initial.store l.store l.at l.i
+
+abbrev pub decreases-loop-i : goal.decreases-loop-i
+decreases-loop-i l = variable_count - l.i
