@@ -8,6 +8,7 @@ use Rattle.refusal.specs.declared.Refusal.TheVariants.{Variables, Space, Pairs, 
 use Rattle.refusal.specs.Numbers.{number_of}
 use Rattle.refusal.specs.Outcome.{Outcome, ok, refused, and_then}
 use Rattle.label.specs.Labels.{predicate_of}
+use Rattle.label.specs.Renamings.{moved}
 use Rattle.diagram.specs.Sizes.{most_rows, space_rows, most_pairs}
 use Rattle.diagram.specs.Diagram.{Diagram, leaf, branch}
 use Rattle.diagram.specs.Rows.{rows, onto}
@@ -21,7 +22,7 @@ use Rattle.apply.specs.Pairs.{pairs, pair_count, overflows}
 use Rattle.apply.specs.Combination.{operate, left_operand, right_operand, too_many, rows_formed, combination, diagram_answer, done_as}
 use Rattle.state.specs.State.{State}
 use Rattle.regression.specs.Calls.{Run, pure, bind, form, combine}
-use Rattle.regression.specs.Step.{exchanged, row_step}
+use Rattle.regression.specs.Step.{exchanged, row_step, test_diagram}
 use Rattle.regression.specs.Regression.{Truths, result_of, row_result, row_results, last_of, over_rows, replacement, truth_of, truth_from, truth_at, regression, regressed}
 use Rattle.mdp.specs.Model.{Variant, Action, Model}
 use Rattle.mdp.specs.Backup.{given, combined, variants_sum}
@@ -96,7 +97,7 @@ module _ (T : ℕ → Run Diagram) (h : (l : ℕ) → Calls (T l)) where
 
 replacement-calls : (ar : List ℕ) (σ : ℕ → ℕ) (d : Diagram) → Calls (replacement ar σ d)
 unfolding replacement
-replacement-calls ar σ d = over-calls _ (λ l. calls-pure _) d
+replacement-calls ar σ d = over-calls _ (λ l. calls-pure (test_diagram (moved ar σ l))) d
 
 from-calls : (ar : List ℕ) (o : Option Diagram) (l : ℕ) → Calls (truth_from ar o l)
 unfolding truth_from

@@ -41,6 +41,7 @@ matched-same ar good σ υ ls l h m = go m
     go (found k e i) = found k (same ∙ e) i
 
 mem-true : (t : ℕ) (ts : List ℕ) → Memᴰ t ts → mem eqb t ts ≡ true
+mem-true t [] x' = elim x' [ ]
 mem-true t (u ∷ ts) (Memᴰ.head e) = or-one (eqb t u) (mem eqb t ts) (eq-eqb t u e)
 mem-true t (u ∷ ts) (Memᴰ.tail m) = or-other (eqb t u) (mem eqb t ts) (mem-true t ts m)
 

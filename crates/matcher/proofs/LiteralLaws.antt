@@ -22,6 +22,7 @@ mem-at f (x ∷ xs) zero h = Memᴰ.head refl
 mem-at f (x ∷ xs) (suc i) h = Memᴰ.tail (mem-at f xs i (omega arith))
 
 pub at_mem : {A : Type 0} (f : ℕ → A) (xs : List ℕ) (a : A) → Memᴰ a (map f xs) → (i : ℕ) × (i < length xs) × (a ≡ f (get_or xs i 0))
+at_mem {A = A} f [] a x' = elim x' [ ]
 at_mem f (x ∷ xs) a (Memᴰ.head e) = (0, omega arith, e)
 at_mem f (x ∷ xs) a (Memᴰ.tail m) = let r = at_mem f xs a m in (suc r.0, omega (arith, r.1), r.2)
 

@@ -47,6 +47,7 @@ marked-stays (u ∷ us) ms t l h = marked-stays us (set ms u 1) t (omega (arith,
     go (above q) = omega (arith, get_or-set_other ms u t 1 0 (omega arith))
 
 pub marked-set : (ts ms : List ℕ) (t : ℕ) → t < length ms → Memᴰ t ts → 0 < get_or (marked ts ms) t 0
+marked-set [] ms t l x'' = elim x'' [ ]
 marked-set (u ∷ us) ms t l (Memᴰ.head e) =
     marked-stays us (set ms u 1) t (omega (arith, length-set ms u 1)) (omega (arith, ap (λ (i : ℕ). get_or (set ms u 1) i 0) e, get_or-set_same ms u 1 0 (omega arith)))
 marked-set (u ∷ us) ms t l (Memᴰ.tail m) = marked-set us (set ms u 1) t (omega (arith, length-set ms u 1)) m

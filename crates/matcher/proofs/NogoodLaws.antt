@@ -31,6 +31,7 @@ map_same f g [] h = refl
 map_same f g (t ∷ ts) h = ap₂ ◌∷◌ (h t (Memᴰ.head refl)) (map_same f g ts (λ u m. h u (Memᴰ.tail m)))
 
 pub map_at : (f g : ℕ → ℕ) (ts : List ℕ) → map f ts ≡ map g ts → (t : ℕ) → Memᴰ t ts → f t ≡ g t
+map_at f g [] e t x'' = elim x'' [ ]
 map_at f g (u ∷ ts) e t (Memᴰ.head q) = let y : f u ≡ g u = cc in ap f q ∙ y ∙ ap g (sym q)
 map_at f g (u ∷ ts) e t (Memᴰ.tail m) = let y : map f ts ≡ map g ts = cc in map_at f g ts y t m
 

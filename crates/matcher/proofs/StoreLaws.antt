@@ -77,6 +77,7 @@ code-label ar (l ∷ ls) (suc j) h = let r = code-label ar ls j (omega arith) in
 
 label-code : (ls : List Literal) (l : Literal) → Memᴰ l ls → (j : ℕ) × (j < length (map code_of ls)) × (get_or (map code_of ls) j 0 / 2 ≡ l.label)
 unfolding code_of
+label-code [] l x' = elim x' [ ]
 label-code (k ∷ ls) l (Memᴰ.head e) = (0, omega arith, half k.label k.sign ∙ ap (λ (x : Literal). x.label) (sym e))
 label-code (k ∷ ls) l (Memᴰ.tail m) = let r = label-code ls l m in (suc r.0, omega (arith, r.1), r.2)
 

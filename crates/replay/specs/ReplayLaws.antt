@@ -37,6 +37,30 @@ verdict m r d = go (has_no_weight m r d) (has_many_facts m r d) (has_valuations 
 
 -- an accepted line is counted
 accepted-is : (m : Model) (r : Replay) (d : Did) (a : Outcome Replay) → Verdict m r d a → (r' : Replay) → a ≡ ok r' → r' ≡ counted m r d
+accepted-is m r d (refused Rattle.refusal.specs.declared.Refusal.TheVariants.Form) x4 r' e = elim x4 [ ]
+accepted-is m r d (refused Rattle.refusal.specs.declared.Refusal.TheVariants.Name) x5 r' e = elim x5 [ ]
+accepted-is m r d (refused Rattle.refusal.specs.declared.Refusal.TheVariants.Arity) x6 r' e = elim x6 [ ]
+accepted-is m r d (refused Rattle.refusal.specs.declared.Refusal.TheVariants.Range) x7 r' e = elim x7 [ ]
+accepted-is m r d (refused Rattle.refusal.specs.declared.Refusal.TheVariants.Place) x8 r' e = elim x8 [ ]
+accepted-is m r d (refused Rattle.refusal.specs.declared.Refusal.TheVariants.Unbound) x9 r' e = elim x9 [ ]
+accepted-is m r d (refused Rattle.refusal.specs.declared.Refusal.TheVariants.Truth) x10 r' e = elim x10 [ ]
+accepted-is m r d (refused Rattle.refusal.specs.declared.Refusal.TheVariants.Variables) x11 r' e = elim x11 [ ]
+accepted-is m r d (refused Rattle.refusal.specs.declared.Refusal.TheVariants.Space) x12 r' e = elim x12 [ ]
+accepted-is m r d (refused Rattle.refusal.specs.declared.Refusal.TheVariants.Pairs) x13 r' e = elim x13 [ ]
+accepted-is m r d (refused Rattle.refusal.specs.declared.Refusal.TheVariants.Value) x14 r' e = elim x14 [ ]
+accepted-is m r d (refused Rattle.refusal.specs.declared.Refusal.TheVariants.Scale) x15 r' e = elim x15 [ ]
+accepted-is m r d (refused Rattle.refusal.specs.declared.Refusal.TheVariants.Weights) x16 r' e = elim x16 [ ]
+accepted-is m r d (refused Rattle.refusal.specs.declared.Refusal.TheVariants.Listing) x17 r' e = elim x17 [ ]
+accepted-is m r d (refused Rattle.refusal.specs.declared.Refusal.TheVariants.Nothing) x18 r' e = elim x18 [ ]
+accepted-is m r d (refused Rattle.refusal.specs.declared.Refusal.TheVariants.Paths) x19 r' e = elim x19 [ ]
+accepted-is m r d (refused Rattle.refusal.specs.declared.Refusal.TheVariants.Buffer) x20 r' e = elim x20 [ ]
+accepted-is m r d (refused Rattle.refusal.specs.declared.Refusal.TheVariants.Length) x21 r' e = elim x21 [ ]
+accepted-is m r d (refused Rattle.refusal.specs.declared.Refusal.TheVariants.Missing) x22 r' e = elim x22 [ ]
+accepted-is m r d (refused Rattle.refusal.specs.declared.Refusal.TheVariants.Ground) x23 r' e = elim x23 [ ]
+accepted-is m r d (refused Rattle.refusal.specs.declared.Refusal.TheVariants.Minimum) x24 r' e = elim x24 [ ]
+accepted-is m r d (refused Rattle.refusal.specs.declared.Refusal.TheVariants.Kinds) x25 r' e = elim x25 [ ]
+accepted-is m r d (refused Rattle.refusal.specs.declared.Refusal.TheVariants.Runs) x26 r' e = elim x26 [ ]
+accepted-is m r d (refused Rattle.refusal.specs.declared.Refusal.TheVariants.Combinations) x27 r' e = elim x27 [ ]
 accepted-is m r d (refused Weightless) (on21 p) r' e = let z : ◌≡◌ {A = ℕ} 0 1 = cc in absurd (omega arith)
 accepted-is m r d (refused Crowded) (on22 p q) r' e = let z : ◌≡◌ {A = ℕ} 0 1 = cc in absurd (omega arith)
 accepted-is m r d (refused Valuations) (on15 p q u) r' e = let z : ◌≡◌ {A = ℕ} 0 1 = cc in absurd (omega arith)

@@ -21,3 +21,7 @@ returns-then-count-gt-PARAMETERS-clause-value c =
 pub free_checked-requires : goal.free_checked-requires
 free_checked-requires c =
     search (rules, free-none, free-short, free-narrow, free-many, free-task, free-done)
+
+pub returns-clause-value : goal.returns-clause-value
+returns-clause-value c =
+    search (rules, free-none, free-short, free-narrow, free-many, free-task, free-done)

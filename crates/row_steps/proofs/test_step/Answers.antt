@@ -1,10 +1,8 @@
 use Rattle.row_steps.proofs.StepRunLaws.{test-full, test-holds, test-other-full, test-ready, test-four, test-split}
-use borrow.Author.Rules.{rules}
 use Rattle.row_steps.proofs.test_step.Goals as goal
 
 pub returns-in_default : goal.returns-in_default
-returns-in_default c =
-    test-full _ c.requires.ready c.requires.two c.form_test.ensures c.in_default.is
+returns-in_default c = test-full _ c.requires.ready c.requires.two c.form_test.ensures c.in_default.is
 
 pub returns-in_default-form_other : goal.returns-in_default-form_other
 returns-in_default-form_other c =
@@ -12,7 +10,11 @@ returns-in_default-form_other c =
 
 pub split_step-requires-clause-ready : goal.split_step-requires-clause-ready
 split_step-requires-clause-ready c =
-    search (rules, test-full, test-holds, test-other-full, test-ready, test-four, test-split)
+    test-ready _ c.requires.ready c.requires.two c.form_test.ensures c.in-Row.is c.form_other.ensures c.in-Row-form_other.is
+
+pub split_step-requires-clause-four : goal.split_step-requires-clause-four
+split_step-requires-clause-four c =
+    test-four _ c.requires.ready c.requires.two c.form_test.ensures c.in-Row.is c.form_other.ensures c.in-Row-form_other.is
 
 pub returns : goal.returns
 returns c =

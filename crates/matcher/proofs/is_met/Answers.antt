@@ -1,0 +1,15 @@
+use native.Mathlib.Omega.{arith}
+use Rattle.matcher.proofs.FindLaws.{image-small, met-equal, equates-small}
+use Rattle.matcher.proofs.is_met.Goals as goal
+
+pub overflow_mul-l : goal.overflow_mul-l
+overflow_mul-l c =
+    omega (arith, equates-small (image-small c.requires.images 0 (omega arith) c.place-t.ensures) (image-small c.requires.images 1 (omega arith) c.place-u.ensures) c.equate.ensures c.in-Is.is)
+
+pub overflow_add-l : goal.overflow_add-l
+overflow_add-l c =
+    omega (arith, equates-small (image-small c.requires.images 0 (omega arith) c.place-t.ensures) (image-small c.requires.images 1 (omega arith) c.place-u.ensures) c.equate.ensures c.in-Is.is)
+
+pub returns : goal.returns
+returns c =
+    met-equal c.is_equality.ensures c.if-not-is_equality.false c.place-t.ensures c.place-u.ensures c.equate.ensures c.in-Is.is c.find-2.ensures

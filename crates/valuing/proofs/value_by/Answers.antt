@@ -1,0 +1,15 @@
+use borrow.Author.Tests.{not-true, not-false}
+use Rattle.valuing.proofs.CheckLaws.{bound-few, bound-many}
+use Rattle.valuing.proofs.value_by.Goals as goal
+
+pub returns-then-not-few : goal.returns-then-not-few
+returns-then-not-few c =
+    bound-many _ _ _ _ _ _ c.requires.few_value (not-true _ c.if-not-few.true) c.by_tables.ensures
+
+pub returns-then-facts : goal.returns-then-facts
+returns-then-facts c =
+    bound-few _ _ _ _ _ _ c.requires.few_value (not-false _ c.if-not-few.false) c.number_many.ensures
+
+pub returns : goal.returns
+returns c =
+    bound-few _ _ _ _ _ _ c.requires.few_value (not-false _ c.if-not-few.false) c.number_few.ensures
