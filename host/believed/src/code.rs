@@ -30,7 +30,7 @@ pub struct Contract {
 
 #[derive(Clone, Debug, Default)]
 pub struct CodeFile {
-    /// `use krate::Type;`
+    /// `use krate::Type;`, and each name of `use krate::{Type, ..};`
     pub uses: Vec<(String, String)>,
     pub ghosts: Vec<Use>,
     pub types: Vec<CodeType>,
@@ -116,7 +116,7 @@ fn read_contract(all: &[&str], i: usize) -> Result<Option<Contract>, String> {
             return Ok(None);
         }
     }
-    let clause = |line: &str| line.trim_start().starts_with("ensures {") || line.trim_start().starts_with("requires {");
+    let clause = |line: &str| ["ensures ", "requires "].iter().any(|word| line.trim_start().starts_with(word));
     let split = (i..end).find(|&j| clause(all[j])).unwrap_or(end);
     let head = words(&all[i..split].iter().map(|line| uncommented(line)).collect::<Vec<_>>().join(" "));
     let at = head.iter().position(|word| word == "fn").ok_or("no function")?;
@@ -130,17 +130,25 @@ fn read_contract(all: &[&str], i: usize) -> Result<Option<Contract>, String> {
     let all_tokens: Vec<Token> = (split..end).flat_map(|j| tokens(all[j], j + 1)).collect();
     let mut clauses = Vec::new();
     let mut requires = false;
-    for pair in tree(&all_tokens)?.chunks(2) {
-        match pair {
-            [Node::Name(word, _), Node::Group('{', inner, _)] if word == "requires" || word == "ensures" => {
+    // Each clause is a word, maybe a name, and what it says in braces.
+    for clause in tree(&all_tokens)?.split_inclusive(|node| matches!(node, Node::Group('{', _, _))) {
+        match clause {
+            [Node::Name(word, _), Node::Group('{', inner, _)] | [Node::Name(word, _), Node::Name(_, _), Node::Group('{', inner, _)]
+                if word == "requires" || word == "ensures" =>
+            {
                 requires |= word == "requires";
                 clauses.push(inner.clone());
             }
             _ => return Err(format!("line {}: this contract is not read", i + 1)),
         }
     }
-    let exported = i > 0 && all[i - 1].trim() == "#[no_mangle]";
+    let exported = i > 0 && all[i - 1].trim() == "#[unsafe(no_mangle)]";
     Ok(Some(Contract { name, exported, parameters, types: type_names(&head[at + 2..]), requires, clauses, lines: (i + 1..=end).collect() }))
+}
+
+/// The line of a `use` or `ghost use` item that ends it.
+fn item_end(all: &[&str], i: usize) -> usize {
+    (i..all.len()).find(|&j| all[j].ends_with(';')).unwrap_or(all.len() - 1)
 }
 
 /// A file of code.
@@ -151,20 +159,16 @@ pub fn read_code(name: &str, text: &str) -> Result<CodeFile, String> {
     while i < all.len() {
         let line = all[i];
         if line.starts_with("ghost use ") {
-            // It may take several lines.
-            let mut ghost: Vec<_> = Vec::new();
             let first = i;
-            loop {
-                ghost.extend(tokens(all[i].trim_end_matches(';'), first + 1));
-                if all[i].ends_with(';') || i + 1 == all.len() {
-                    break;
-                }
-                i += 1;
-            }
+            i = item_end(&all, i);
+            let ghost: Vec<_> = all[first..=i].iter().flat_map(|line| tokens(line.trim_end_matches(';'), first + 1)).collect();
             file.ghosts.push(read_use(&ghost[1..])?);
-        } else if let Some(path) = line.strip_prefix("use ") {
-            if let Some((krate, name)) = path.trim_end_matches(';').split_once("::") {
-                file.uses.push((krate.to_string(), name.to_string()));
+        } else if line.starts_with("use ") {
+            let first = i;
+            i = item_end(&all, i);
+            if let Some((krate, names)) = all[first..=i].concat().trim_start_matches("use ").split_once("::") {
+                let names = words(names).into_iter().filter(|name| !["{", "}", ",", ";"].contains(&name.as_str()));
+                file.uses.extend(names.map(|name| (krate.to_string(), name)));
             }
         } else if ["struct ", "enum ", "pub struct ", "pub enum "].iter().any(|head| line.starts_with(head)) {
             let (found, end) = read_type(name, &all, i)?;

@@ -1,7 +1,7 @@
 //! All that is reached from a root: what a name means in a file, and what rests on what.
 
 use crate::names::{Scope, Used, Walk};
-use crate::repository::{is_part, named, Module, Repository, Thing};
+use crate::repository::{is_part, named, path_of, Module, Repository, Thing};
 use crate::roots::Root;
 use crate::specs::{Kind, Use};
 use std::collections::{BTreeMap, BTreeSet};
@@ -71,7 +71,7 @@ impl Scope for Names<'_> {
                 found.is_some_and(|found| found.kind == Kind::Data && found.members.iter().any(|member| is_part(&member.name, &imported)))
             }
             Some(Thing::Code(_, owner)) => {
-                named(self.uses, name).is_some_and(|(path, _)| path.last().is_some_and(|last| last == "the-variants") || owner != name)
+                named(self.uses, name).is_some_and(|(path, _)| path.last().is_some_and(|last| last == "TheVariants") || owner != name)
             }
             Some(Thing::Library(path)) => {
                 let last = path.rsplit('.').next().unwrap_or("");
@@ -93,24 +93,33 @@ pub struct Reached {
 }
 
 impl Reached {
+    /// A field that is taken; those of a pair have numbers.
+    fn field(&mut self, place: &str, field: String, line: usize) {
+        if !field.starts_with(|c: char| c.is_ascii_digit()) {
+            self.fields.entry(field).or_insert(format!("{place}: line {line}"));
+        }
+    }
+
     fn take(&mut self, place: &str, names: &Names, walk: Walk) -> Vec<Thing> {
         let (used, faults) = (walk.used, walk.faults);
         self.faults.extend(faults.into_iter().map(|fault| format!("{place}: {fault}")));
         let mut found = Vec::new();
         for one in used {
             match one {
-                Used::Field(field, line) => {
-                    if !field.starts_with(|c: char| c.is_ascii_digit()) {
-                        self.fields.entry(field).or_insert(format!("{place}: line {line}"));
-                    }
-                }
+                Used::Field(field, line) => self.field(place, field, line),
                 Used::Record(mut fields, line) => {
                     fields.sort();
                     self.records.entry(fields).or_insert(format!("{place}: line {line}"));
                 }
                 Used::Name(path, line) => match names.resolve(&path) {
                     Some(thing) => found.push(thing),
-                    None if names.own.is_none() && names.repository.roots.contract_words.contains(&path.join(".")) => {}
+                    // Fields of what a name in front stands for.
+                    None if path.len() > 1 && names.resolve(&path[..1]).is_some() => {
+                        found.extend(names.resolve(&path[..1]));
+                        for field in &path[1..] {
+                            self.field(place, field.clone(), line);
+                        }
+                    }
                     None => {
                         self.faults.insert(format!("{place}: line {line}: {} is not found", path.join(".")));
                     }
@@ -129,7 +138,7 @@ impl Reached {
                 self.types(repository, krate, &found.types)
             }
             Thing::Spec(krate, file, name) => {
-                let place = format!("crates/{krate}/specs/{file}.antt");
+                let place = format!("crates/{krate}/{}.antt", path_of(file));
                 let Some(found) = repository.declaration(krate, file, name) else { return Vec::new() };
                 let uses = &repository.specs[&(krate.clone(), file.clone())].uses;
                 let names = Names { repository, uses, own: Some((krate, file)) };
@@ -206,8 +215,9 @@ impl Reached {
     fn begin(&mut self, repository: &Repository, root: &Root) -> Vec<Thing> {
         match root {
             Root::Theorem(krate, file, name) => {
-                let thing = Thing::Spec(krate.clone(), file.clone(), name.clone());
-                match repository.declaration(krate, file, name).map(|found| found.kind) {
+                let home = repository.home(krate, file, name);
+                let thing = Thing::Spec(krate.clone(), home.clone(), name.clone());
+                match repository.declaration(krate, &home, name).map(|found| found.kind) {
                     None => {
                         self.faults.insert(format!("there is no {name} in crates/{krate}/specs/{file}.antt"));
                         Vec::new()
@@ -228,6 +238,7 @@ impl Reached {
                     let names = Names { repository, uses: &repository.code[krate].ghosts, own: None };
                     let mut walk = Walk::new(&names);
                     walk.bound.clone_from(&contract.parameters);
+                    walk.bound.extend(repository.roots.contract_words.iter().cloned());
                     for clause in &contract.clauses {
                         let outer = walk.bound.len();
                         walk.walk(clause);

@@ -1,5 +1,6 @@
 //! The names that a term, a type or a clause uses from outside: bound variables are left out.
 
+use crate::repository::is_part;
 use crate::tokens::Node;
 
 #[derive(Clone, Debug, PartialEq, Eq)]
@@ -219,9 +220,7 @@ impl<'a> Walk<'a> {
         match equals {
             None => self.faults.push(format!("a clause of {name} without =")),
             Some(at) => {
-                let parts: Vec<&str> = name.split('_').filter(|part| !part.is_empty()).collect();
-                let own = |node: &Node| is_name(node, name) || (name.contains('_') && parts.iter().any(|part| is_name(node, part)));
-                for node in nodes[..at].iter().filter(|node| !own(node)) {
+                for node in nodes[..at].iter().filter(|node| !matches!(node, Node::Name(word, _) if is_part(name, word))) {
                     self.pattern(std::slice::from_ref(node));
                 }
                 self.walk(&nodes[at + 1..]);

@@ -2,7 +2,7 @@
 
 use crate::follow::{follow, Reached};
 use crate::pages::stale;
-use crate::repository::{Repository, Thing};
+use crate::repository::{path_of, Repository, Thing};
 use crate::roots::Root;
 use crate::specs::Kind;
 use std::collections::{BTreeMap, BTreeSet};
@@ -28,7 +28,7 @@ pub fn by_file(repository: &Repository, reached: &Reached) -> ByFile {
             Thing::Spec(krate, file, name) => {
                 let first = repository.declaration(krate, file, name).map_or(0, |found| found.first);
                 let stated = repository.roots.is_statement(krate, file, name);
-                (krate, format!("specs/{file}.antt"), Believed { name: name.clone(), first, lines, stated })
+                (krate, format!("{}.antt", path_of(file)), Believed { name: name.clone(), first, lines, stated })
             }
             Thing::Code(krate, name) => {
                 let Some(of) = repository.code_type(krate, name) else { continue };
@@ -81,12 +81,12 @@ fn title(repository: &Repository, root: &Root) -> String {
     }
 }
 
-/// Definitions in files of laws.
+/// Definitions in files of laws, or among lemmas.
 pub fn misplaced(reached: &Reached) -> Vec<(String, String, String)> {
     let mut found = Vec::new();
     for thing in &reached.things {
         if let Thing::Spec(krate, file, name) = thing {
-            if file.ends_with("Laws") {
+            if file.ends_with("Laws") || file.starts_with("proofs/") {
                 found.push((krate.clone(), file.clone(), name.clone()));
             }
         }
@@ -185,7 +185,7 @@ pub fn faults(repository: &Repository, reached: &Reached) -> Vec<String> {
     let misplaced = misplaced(reached);
     for (krate, file, name) in &misplaced {
         if !repository.roots.to_move.contains(&(krate.clone(), file.clone(), name.clone())) {
-            found.push(format!("crates/{krate}/specs/{file}.antt: {name} has to be believed and stands in a file of laws"));
+            found.push(format!("crates/{krate}/{}.antt: {name} has to be believed and stands in a file of laws", path_of(file)));
         }
     }
     for place in &repository.roots.to_move {
@@ -197,7 +197,10 @@ pub fn faults(repository: &Repository, reached: &Reached) -> Vec<String> {
         if let Thing::Spec(krate, file, name) = thing {
             let plain = repository.declaration(krate, file, name).is_some_and(|found| found.kind == Kind::Plain);
             if plain && !repository.roots.is_statement(krate, file, name) {
-                found.push(format!("crates/{krate}/specs/{file}.antt: {name} is neither abbrev nor unfoldable: nobody can look into it"));
+                found.push(format!(
+                    "crates/{krate}/{}.antt: {name} is neither abbrev nor unfoldable: nobody can look into it",
+                    path_of(file)
+                ));
             }
         }
     }

@@ -17,6 +17,7 @@ pub enum Thing {
 
 #[derive(Default)]
 pub struct Repository {
+    /// By crate and file; the lemmas of a crate as `proofs/File`.
     pub specs: BTreeMap<(String, String), File>,
     pub code: BTreeMap<String, CodeFile>,
     /// The names on the first page of a crate that has a table there.
@@ -47,9 +48,20 @@ pub fn named<'a>(uses: impl IntoIterator<Item = &'a Use>, name: &str) -> Option<
     None
 }
 
+/// Where an operator's name has a place for an operand.
+pub const OPERAND: char = '◌';
+
 /// Whether `word` is `name`, or a part of the operator `name`.
 pub fn is_part(name: &str, word: &str) -> bool {
-    name == word || (name.contains('_') && name.split('_').any(|part| !part.is_empty() && part == word.trim_matches('_')))
+    name == word || (name.contains(OPERAND) && name.split(OPERAND).any(|part| !part.is_empty() && part == word.trim_matches(OPERAND)))
+}
+
+/// A file of the specs or of the lemmas, below its crate.
+pub fn path_of(file: &str) -> String {
+    match file.starts_with("proofs/") {
+        true => file.to_string(),
+        false => format!("specs/{file}"),
+    }
 }
 
 impl Repository {
@@ -73,6 +85,12 @@ impl Repository {
             if let [krate, "specs" | "src", file] = parts.as_slice() {
                 let text = std::fs::read_to_string(&path).map_err(|error| format!("crates/{name}: {error}"))?;
                 found.add(krate, file, &text).map_err(|fault| format!("crates/{name}: {fault}"))?;
+            } else if let [krate, "proofs", file] = parts.as_slice() {
+                // Lemmas: a theorem may stand among them. What cannot be read there is not found.
+                let text = std::fs::read_to_string(&path).map_err(|error| format!("crates/{name}: {error}"))?;
+                if let (Some(file), Ok(read)) = (file.strip_suffix(".antt").filter(|file| !file.contains('/')), read_specs(&text)) {
+                    found.specs.insert((krate.to_string(), format!("proofs/{file}")), read);
+                }
             }
         }
         Ok(found)
@@ -101,6 +119,15 @@ impl Repository {
         self.specs.get(&(krate.to_string(), file.to_string()))?.declarations.iter().find(|found| found.name == name)
     }
 
+    /// The file in which a theorem stands that is named with its file's name: of specs, or among the lemmas.
+    pub fn home(&self, krate: &str, file: &str, name: &str) -> String {
+        let lemmas = format!("proofs/{file}");
+        match self.declaration(krate, file, name).is_none() && self.declaration(krate, &lemmas, name).is_some() {
+            true => lemmas,
+            false => file.to_string(),
+        }
+    }
+
     /// Whether a crate declares this name.
     pub fn has(&self, krate: &str, name: &str) -> bool {
         let mut files = self.specs.iter().filter(|((of, _), _)| of == krate).map(|(_, file)| file);
@@ -122,7 +149,6 @@ impl Repository {
     /// The module below `module` that is named `name`.
     pub fn below(&self, module: &Module, name: &str) -> Option<Module> {
         Some(match module {
-            Module::Specs(krate) if name == "specs" => Module::Specs(krate.clone()),
             Module::Specs(krate) if name == "declared" => Module::Declared(krate.clone()),
             Module::Specs(krate) if self.specs.contains_key(&(krate.clone(), name.to_string())) => {
                 Module::File(krate.clone(), name.to_string())
@@ -141,19 +167,25 @@ impl Repository {
                 self.code_type(krate, name)?;
                 Module::CodeType(krate.clone(), name.to_string())
             }
-            Module::CodeType(krate, of) if name == "the-variants" => Module::CodeType(krate.clone(), of.clone()),
+            Module::CodeType(krate, of) if name == "TheVariants" => Module::CodeType(krate.clone(), of.clone()),
             Module::Library(path) => Module::Library(format!("{path}.{name}")),
             _ => return None,
         })
     }
 
     pub fn at(&self, path: &[String]) -> Option<Module> {
-        let mut module = match path[0].strip_prefix("Rattle·") {
-            Some(krate) => Module::Specs(krate.trim_end_matches("·specs").to_string()),
-            None if self.roots.libraries.contains(&path[0]) => Module::Library(path[0].clone()),
-            None => return None,
+        let (mut module, rest) = match path {
+            [first, krate, rest @ ..] if first == "Rattle" && self.roots.libraries.contains(krate) => {
+                (Module::Library(format!("Rattle.{krate}")), rest)
+            }
+            [first, krate, specs, rest @ ..] if first == "Rattle" && specs == "specs" => (Module::Specs(krate.clone()), rest),
+            [first, krate, proofs, file, rest @ ..] if first == "Rattle" && proofs == "proofs" => {
+                (Module::File(krate.clone(), format!("proofs/{file}")), rest)
+            }
+            [first, rest @ ..] if self.roots.libraries.contains(first) => (Module::Library(first.clone()), rest),
+            _ => return None,
         };
-        for name in &path[1..] {
+        for name in rest {
             module = self.below(&module, name)?;
         }
         Some(module)
@@ -205,7 +237,9 @@ impl Repository {
     /// The lines of a statement or contract itself.
     pub fn own_lines(&self, root: &Root) -> usize {
         match root {
-            Root::Theorem(krate, file, name) => self.declaration(krate, file, name).map_or(0, |found| found.stated.len()),
+            Root::Theorem(krate, file, name) => {
+                self.declaration(krate, &self.home(krate, file, name), name).map_or(0, |found| found.stated.len())
+            }
             Root::Function(krate, name) => self.contracts(krate, name.as_deref()).iter().map(|found| found.lines.len()).sum(),
         }
     }

@@ -14,7 +14,7 @@ pub enum Node {
     Name(String, usize),
     /// Names joined by dots.
     Path(Vec<String>, usize),
-    /// A projection, with a space before its dot.
+    /// A projection behind brackets, as in `(f x).y`; one behind a name is the path `x.y`.
     Field(String, usize),
     /// The dot behind the binders of a λ.
     Dot,
@@ -74,8 +74,9 @@ fn closing(open: &str) -> Option<&'static str> {
 /// The tree of brackets, up to the closing bracket that is given.
 fn group(tokens: &[Token], at: &mut usize, end: Option<&str>) -> Result<Vec<Node>, String> {
     let mut nodes: Vec<Node> = Vec::new();
-    // The token before, if it was a name or a path.
+    // The token before was a name or a path, or it closed brackets.
     let mut named = false;
+    let mut closed = false;
     while let Some(token) = tokens.get(*at) {
         *at += 1;
         let text = token.text.as_str();
@@ -83,16 +84,17 @@ fn group(tokens: &[Token], at: &mut usize, end: Option<&str>) -> Result<Vec<Node
             return Ok(nodes);
         }
         let next = tokens.get(*at).filter(|next| !next.spaced && !"(){};,@.".contains(next.text.as_str()));
+        let behind = std::mem::take(&mut closed) && !token.spaced;
         match text {
             ")" | "}" | "]" | "\"" | "@" => return Err(format!("line {}: {text} is not read", token.line)),
             "." => match next {
-                Some(field) if token.spaced => {
+                Some(field) if behind => {
                     nodes.push(Node::Field(field.text.clone(), field.line));
                     *at += 1;
-                    named = false;
-                    continue;
+                    // Another one may follow.
+                    closed = true;
                 }
-                Some(part) if named => {
+                Some(part) if named && !token.spaced => {
                     let mut path = match nodes.pop() {
                         Some(Node::Name(name, _)) => vec![name],
                         Some(Node::Path(path, _)) => path,
@@ -106,7 +108,10 @@ fn group(tokens: &[Token], at: &mut usize, end: Option<&str>) -> Result<Vec<Node
                 _ => nodes.push(Node::Dot),
             },
             _ => match closing(text) {
-                Some(close) => nodes.push(Node::Group(text.chars().next().unwrap_or('('), group(tokens, at, Some(close))?, token.line)),
+                Some(close) => {
+                    nodes.push(Node::Group(text.chars().next().unwrap_or('('), group(tokens, at, Some(close))?, token.line));
+                    closed = true;
+                }
                 None => {
                     nodes.push(Node::Name(text.to_string(), token.line));
                     named = true;

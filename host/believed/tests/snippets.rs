@@ -7,11 +7,11 @@ use believed::repository::{Repository, Thing};
 use believed::roots::{Root, Roots};
 use believed::specs::{read_specs, Kind};
 
-const DATA: &str = "libraries lib\nprelude Unit tt\nconstructors true false zero suc\nkit-fields entry exit\ncontract-words ⌜ ⌝ now\nstatement a Base decided\n";
+const DATA: &str = "libraries lib\nprelude Unit tt\nconstructors true false zero suc\nkit-fields now old new\ncontract-words result\nstatement a Base decided\n";
 
 const BASE: &str = "\
 -- A file of definitions.
-use lib.Nat.{ℕ, zero, suc, _+_, _≤_}
+use lib.Nat.{ℕ, zero, suc, ◌+◌, ◌≤◌}
 
 -- a tree, and its size
 pub data Tree (L : Type 0) : Type 0 where
@@ -48,25 +48,27 @@ law t = proof t
 ";
 
 const CODE: &str = "\
-use b::Word;
-ghost use lib.Path.{_≡_};
-ghost use Rattle·a.specs.Base.{
+ghost use Rattle.lib.specs.Path.{◌≡◌};
+ghost use Rattle.a.specs.Base.{
     size, extra
 };
 
+use b::{Other, Word};
+
 // An answer.
+#[derive(Clone, Copy)]
 pub enum Answer {
     Done(Word, usize),
     Nothing,
 }
 
 // Its size.
-#[no_mangle]
-pub extern \"C\" fn measure(words: &[u64], size: usize) -> Answer
-    requires { ⌜ size ≡ extra ⌝ }
-    ensures { λ r. ⌜
-        now (words .exit) ≡ extra
-    ⌝ }
+#[unsafe(no_mangle)]
+pub extern \"C\" fn measure(words: &mut [u64], size: usize) -> Answer
+    requires { size ≡ extra }
+    ensures written { words.new ≡ extra
+        (words.old) }
+    ensures is_number { result.high_part ≡ extra }
 {
     Answer::Nothing
 }
@@ -118,7 +120,7 @@ fn declarations_and_their_lines() {
 
 #[test]
 fn a_theorem_rests_on_its_statement_alone() {
-    let (_, reached) = reach("use Rattle·a·specs.specs.Base.{Tree, size, extra}\nuse lib.Nat.{ℕ, _+_}\npub top : (t : Tree ℕ) → ℕ\nunfolding extra\ntop t = extra + unknown\n");
+    let (_, reached) = reach("use Rattle.a.specs.Base.{Tree, size, extra}\nuse lib.Nat.{ℕ, ◌+◌}\npub top : (t : Tree ℕ) → ℕ\nunfolding extra\ntop t = extra + unknown\n");
     assert_eq!(names(&reached), ["a.Base.Tree", "lib.Nat.ℕ"]);
     assert!(reached.faults.is_empty());
 }
@@ -126,12 +128,12 @@ fn a_theorem_rests_on_its_statement_alone() {
 #[test]
 fn names_by_alias_by_module_and_by_type() {
     for body in [
-        "use Rattle·a.specs.Base.{leaf as lone}\nabbrev top : ℕ → ℕ\ntop x = lone x\n",
-        "use Rattle·a.specs.Base.Tree.{leaf}\nabbrev top : ℕ → ℕ\ntop x = leaf x\n",
-        "use Rattle·a.specs.Base as B\nabbrev top : ℕ → ℕ\ntop x = B.leaf x\n",
-        "use Rattle·a.specs.Base as B\nabbrev top : ℕ → ℕ\ntop x = B.Tree.leaf x\n",
-        "use Rattle·a.specs.Base.{Tree}\nabbrev top : ℕ → ℕ\ntop x = Tree.leaf x\n",
-        "use Rattle·a.specs.Base.{leaf}\nabbrev top : ℕ → ℕ\ntop (leaf x) = x\n",
+        "use Rattle.a.specs.Base.{leaf as lone}\nabbrev top : ℕ → ℕ\ntop x = lone x\n",
+        "use Rattle.a.specs.Base.Tree.{leaf}\nabbrev top : ℕ → ℕ\ntop x = leaf x\n",
+        "use Rattle.a.specs.Base as B\nabbrev top : ℕ → ℕ\ntop x = B.leaf x\n",
+        "use Rattle.a.specs.Base as B\nabbrev top : ℕ → ℕ\ntop x = B.Tree.leaf x\n",
+        "use Rattle.a.specs.Base.{Tree}\nabbrev top : ℕ → ℕ\ntop x = Tree.leaf x\n",
+        "use Rattle.a.specs.Base.{leaf}\nabbrev top : ℕ → ℕ\ntop (leaf x) = x\n",
     ] {
         let (_, reached) = reach(&format!("use lib.Nat.{{ℕ}}\n{body}"));
         assert_eq!(names(&reached), ["a.Base.Tree", "a.Top.top", "lib.Nat.ℕ"], "{body}");
@@ -143,7 +145,7 @@ fn names_by_alias_by_module_and_by_type() {
 fn files_in_folders() {
     let mut found = repository();
     found.add("a", "Base/Inner.antt", "abbrev pub inner : Unit\ninner = tt\n").unwrap();
-    found.add("a", "Top.antt", "use Rattle·a.specs.Base.Inner.{inner}\nabbrev top : Unit\ntop = inner\n").unwrap();
+    found.add("a", "Top.antt", "use Rattle.a.specs.Base.Inner.{inner}\nabbrev top : Unit\ntop = inner\n").unwrap();
     let reached = follow(&found, &[Root::Theorem("a".into(), "Top".into(), "top".into())]);
     assert_eq!(names(&reached), ["a.Base/Inner.inner", "a.Top.top", "Prim.Unit", "Prim.tt"]);
     assert!(reached.faults.is_empty(), "{:?}", reached.faults);
@@ -152,8 +154,8 @@ fn files_in_folders() {
 #[test]
 fn names_handed_on_and_mutual_blocks() {
     let mut found = repository();
-    found.add("a", "Front.antt", "pub use Rattle·a.specs.Base.{extra as more}\n").unwrap();
-    let text = "use Rattle·a.specs.Front.{more}\nuse lib.Nat.{ℕ}\nunfoldable mutual\n  pub top : ℕ\n  top = other\n\n  other : ℕ\n  other = more\n";
+    found.add("a", "Front.antt", "pub use Rattle.a.specs.Base.{extra as more}\n").unwrap();
+    let text = "use Rattle.a.specs.Front.{more}\nuse lib.Nat.{ℕ}\nunfoldable mutual\n  pub top : ℕ\n  top = other\n\n  other : ℕ\n  other = more\n";
     found.add("a", "Top.antt", text).unwrap();
     let reached = follow(&found, &[Root::Theorem("a".into(), "Top".into(), "top".into())]);
     assert_eq!(names(&reached), ["a.Base.extra", "a.Top.other", "a.Top.top", "lib.Nat.ℕ"]);
@@ -164,12 +166,12 @@ fn names_handed_on_and_mutual_blocks() {
 fn bound_names_are_not_followed() {
     // A parameter, a variable of a case and one of a λ; the second case names the definition.
     let (_, reached) = reach(
-        "use lib.Nat.{ℕ}\nuse Rattle·a.specs.Base.{size, extra}\nabbrev top : (size : ℕ) → ℕ → ℕ\ntop size k = elim k [ (extra → h) ↦ extra | h ↦ (λ (size : ℕ). size) extra ]\n",
+        "use lib.Nat.{ℕ}\nuse Rattle.a.specs.Base.{size, extra}\nabbrev top : (size : ℕ) → ℕ → ℕ\ntop size k = elim k [ (extra → h) ↦ extra | h ↦ (λ (size : ℕ). size) extra ]\n",
     );
     assert_eq!(names(&reached), ["a.Base.extra", "a.Top.top", "lib.Nat.ℕ"]);
     // A let ends at the comma.
     let (_, reached) =
-        reach("use lib.Nat.{ℕ}\nuse Rattle·a.specs.Base.{extra}\nabbrev top : ℕ → ℕ × ℕ\ntop x = (let extra : ℕ = x in extra, extra)\n");
+        reach("use lib.Nat.{ℕ}\nuse Rattle.a.specs.Base.{extra}\nabbrev top : ℕ → ℕ × ℕ\ntop x = (let extra : ℕ = x in extra, extra)\n");
     assert_eq!(names(&reached), ["a.Base.extra", "a.Top.top", "lib.Nat.ℕ"]);
 }
 
@@ -177,13 +179,14 @@ fn bound_names_are_not_followed() {
 fn what_is_not_found_is_a_fault() {
     for (body, fault) in [
         ("abbrev top : Unit\ntop = unknown\n", "unknown is not found"),
-        ("use Rattle·a.specs.Base.{unknown}\nabbrev top : Unit\ntop = unknown\n", "unknown is not found"),
-        ("use Rattle·a.specs.Base as B\nabbrev top : Unit\ntop = B.unknown\n", "B.unknown is not found"),
+        ("use Rattle.a.specs.Base.{unknown}\nabbrev top : Unit\ntop = unknown\n", "unknown is not found"),
+        ("use Rattle.a.specs.Base as B\nabbrev top : Unit\ntop = B.unknown\n", "B.unknown is not found"),
         ("use elsewhere.Nat.{ℕ}\nabbrev top : ℕ\ntop = 1\n", "ℕ is not found"),
         ("abbrev top : Unit\ntop = go\n  where\n    go : Unit\n    go = tt\n", "where is not read"),
-        ("use lib.Nat.{ℕ}\nabbrev top : ℕ → ℕ\ntop x = x .tree\n", "the field tree is of no record"),
+        ("use lib.Nat.{ℕ}\nabbrev top : ℕ → ℕ\ntop x = x.tree\n", "the field tree is of no record"),
+        ("use lib.Nat.{ℕ}\nabbrev top : (ℕ → ℕ) → ℕ\ntop x = (x 1).0.tree\n", "the field tree is of no record"),
         (
-            "use Rattle·a.specs.Base.{Held}\nabbrev top : Held\ntop = record { tree = tt }\n",
+            "use Rattle.a.specs.Base.{Held}\nabbrev top : Held\ntop = record { tree = tt }\n",
             "no record that was reached has the fields tree",
         ),
     ] {
@@ -194,14 +197,13 @@ fn what_is_not_found_is_a_fault() {
 
 #[test]
 fn records_sections_and_statements() {
-    let (repository, reached) = reach(
-        "use Rattle·a.specs.Base.{Held, size, decided}\nuse lib.Nat.{ℕ}\nabbrev top : Held → ℕ\ntop h = size (h .tree) (decided 1)\n",
-    );
+    let (repository, reached) =
+        reach("use Rattle.a.specs.Base.{Held, size, decided}\nuse lib.Nat.{ℕ}\nabbrev top : Held → ℕ\ntop h = size h.tree (decided 1)\n");
     assert_eq!(
         names(&reached),
         ["a.Base.Held", "a.Base.Tree", "a.Base.decided", "a.Base.extra", "a.Base.size", "a.Base.within", "a.Top.top"]
             .into_iter()
-            .chain(["lib.Nat._+_", "lib.Nat._≤_", "lib.Nat.suc", "lib.Nat.ℕ"])
+            .chain(["lib.Nat.suc", "lib.Nat.ℕ", "lib.Nat.◌+◌", "lib.Nat.◌≤◌"])
             .collect::<Vec<_>>()
     );
     assert!(reached.faults.is_empty(), "{:?}", reached.faults);
@@ -210,13 +212,23 @@ fn records_sections_and_statements() {
 }
 
 #[test]
+fn fields_of_what_a_name_stands_for() {
+    let (_, reached) = reach(
+        "use Rattle.a.specs.Base.{Held, extra}\nuse lib.Nat.{ℕ}\nabbrev given : ℕ → Held\ngiven n = given extra\n\nabbrev whole : Held\nwhole = given 1\n\nabbrev top : ℕ → ℕ\ntop n = n whole.tree (given n).few\n",
+    );
+    assert!(names(&reached).starts_with(&["a.Base.Held", "a.Base.Tree", "a.Base.extra", "a.Base.size"].map(String::from)));
+    assert!(["a.Top.given", "a.Top.top", "a.Top.whole"].iter().all(|name| names(&reached).contains(&name.to_string())));
+    assert!(reached.faults.is_empty(), "{:?}", reached.faults);
+}
+
+#[test]
 fn a_theorem_in_place_of_a_body() {
     let mut found = repository();
-    found.add("a", "Top.antt", "use lib.Nat.{ℕ}\nuse Rattle·a.specs.Base.{size}\nabbrev top : ℕ\ntop = size\n").unwrap();
+    found.add("a", "Top.antt", "use lib.Nat.{ℕ}\nuse Rattle.a.specs.Base.{size}\nabbrev top : ℕ\ntop = size\n").unwrap();
     found.roots = Roots::read(&format!("{DATA}told a Base size by a Base law\n")).unwrap();
     let from = [Root::Theorem("a".into(), "Top".into(), "top".into())];
     let reached = follow(&found, &from);
-    assert_eq!(names(&reached), ["a.Base.Tree", "a.Base.extra", "a.Base.size", "a.Top.top", "lib.Nat._≤_", "lib.Nat.ℕ"]);
+    assert_eq!(names(&reached), ["a.Base.Tree", "a.Base.extra", "a.Base.size", "a.Top.top", "lib.Nat.ℕ", "lib.Nat.◌≤◌"]);
     assert_eq!(faults(&found, &reached), Vec::<String>::new());
     // Tree 3, extra 2, size 1, top 2
     assert_eq!(total(&by_file(&found, &reached)), (4, 8));
@@ -227,14 +239,14 @@ fn a_theorem_in_place_of_a_body() {
 #[test]
 fn types_of_code_and_contracts() {
     let (_, reached) = reach(
-        "use Rattle·a·specs.specs.declared.Answer.{Answer}\nuse Rattle·a·specs.specs.declared.Answer.the-variants as A\nuse lib.Nat.{ℕ}\nabbrev top : Answer → ℕ\ntop (A.Done w n) = w .«high_part»\ntop A.Nothing = 0\n",
+        "use Rattle.a.specs.declared.Answer.{Answer}\nuse Rattle.a.specs.declared.Answer.TheVariants as A\nuse lib.Nat.{ℕ}\nabbrev top : Answer → ℕ\ntop (A.Done w n) = w.«high_part»\ntop A.Nothing = 0\n",
     );
     assert_eq!(names(&reached), ["a.Top.top", "a::Answer", "b::Word", "lib.Nat.ℕ"]);
     assert!(reached.faults.is_empty(), "{:?}", reached.faults);
     let repository = repository();
     for name in [Some("measure".to_string()), None] {
         let reached = follow(&repository, &[Root::Function("a".into(), name)]);
-        assert_eq!(names(&reached), ["a.Base.extra", "a::Answer", "b::Word", "lib.Nat.ℕ", "lib.Path._≡_"]);
+        assert_eq!(names(&reached), ["a.Base.extra", "a::Answer", "b::Word", "Rattle.lib.specs.Path.◌≡◌", "lib.Nat.ℕ"]);
         assert!(reached.faults.is_empty(), "{:?}", reached.faults);
     }
     let reached = follow(&repository, &[Root::Function("b".into(), Some("measure".into()))]);
@@ -247,7 +259,7 @@ fn definitions_in_files_of_laws() {
     found
         .add("a", "TopLaws.antt", "abbrev pub Known : Type 0\nKnown = Unit\n\nlemma : Known\nlemma = tt\n\npub top : Known\ntop = lemma\n")
         .unwrap();
-    found.add("a", "Top.antt", "use Rattle·a.specs.TopLaws.{Known, lemma}\nabbrev top : Known\ntop = lemma\n").unwrap();
+    found.add("a", "Top.antt", "use Rattle.a.specs.TopLaws.{Known, lemma}\nabbrev top : Known\ntop = lemma\n").unwrap();
     let theorem = follow(&found, &[Root::Theorem("a".into(), "TopLaws".into(), "top".into())]);
     assert_eq!(faults(&found, &theorem), ["crates/a/specs/TopLaws.antt: Known has to be believed and stands in a file of laws"]);
     found.roots = Roots::read(&format!("{DATA}to-move a TopLaws Known\nto-move a TopLaws gone\n")).unwrap();
@@ -255,6 +267,20 @@ fn definitions_in_files_of_laws() {
     // A definition that nobody may look into says nothing.
     let all = faults(&found, &follow(&found, &[Root::Theorem("a".into(), "Top".into(), "top".into())]));
     assert!(all.iter().any(|fault| fault.contains("lemma is neither abbrev nor unfoldable")), "{all:?}");
+}
+
+#[test]
+fn theorems_among_lemmas() {
+    let mut found = repository();
+    let text = "use Rattle.a.specs.Base.{Tree}\nuse lib.Nat.{ℕ}\nabbrev pub Own : Type 0\nOwn = Unit\n\npub law : Tree ℕ → Unit\nlaw t = tt\n\npub other : Own\nother = tt\n";
+    found.specs.insert(("a".into(), "proofs/Inner".into()), read_specs(text).unwrap());
+    let root = |name: &str| [Root::Theorem("a".into(), "Inner".into(), name.into())];
+    let reached = follow(&found, &root("law"));
+    assert_eq!(names(&reached), ["a.Base.Tree", "Prim.Unit", "lib.Nat.ℕ"]);
+    assert_eq!(faults(&found, &reached), Vec::<String>::new());
+    assert_eq!(found.own_lines(&root("law")[0]), 1);
+    let all = faults(&found, &follow(&found, &root("other")));
+    assert_eq!(all, ["crates/a/proofs/Inner.antt: Own has to be believed and stands in a file of laws"]);
 }
 
 #[test]
