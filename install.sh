@@ -1,7 +1,8 @@
 #!/usr/bin/env bash
 # Installs what is built to PREFIX: the program, the front end, the library with its header and pkg-config file, the manual pages and the documents.
 #     ./install.sh PREFIX
-# What is missing in target/ is built first, by rt (the program takes a quarter of an hour from nothing). The front end needs cargo and is left out without it.
+# What is missing in the crates' out/ is built first, by rt, which proves all that it rests on: where nothing is kept of that, it takes an hour or so. The front end needs cargo and is left out
+# without it.
 # DESTDIR, if it is set, stands before PREFIX where files are written.
 set -euo pipefail
 
@@ -19,14 +20,13 @@ to=${DESTDIR:-}$prefix
 cd "$(dirname "$0")"
 version=$(sed -n 's/^#define YINDOLVE_VERSION "\(.*\)"$/\1/p' include/yindolve.h)
 
-# built FILE COMMAND..: builds the file where it is missing.
+# built CRATE FILE VERB: builds the file in the crate's out/ where it is missing. rt run also runs the program, here on an empty text.
 built() {
-    local file=$1
-    shift
+    local file=crates/$1/out/$2 log=$PWD/target/install.log
     if [ -f "$file" ]; then return; fi
     command -v rt >/dev/null || fail "$file is missing, and there is no rt on the path to build it"
     echo "building $file"
-    "$@" >target/install.log 2>&1 || { tail -n 20 target/install.log >&2; fail "$* failed"; }
+    (cd "crates/$1" && rt "$3") </dev/null >"$log" 2>&1 || { tail -n 20 "$log" >&2; fail "rt $3 in crates/$1 failed"; }
 }
 
 # put MODE FILE FOLDER [NAME]
@@ -37,12 +37,14 @@ put() {
 }
 
 mkdir -p target
-built target/bin/yindolve rt check yindolve
-built target/staticlib/libc_library.a rt staticlib c_library
+program=crates/yindolve/out/yindolve
+library=crates/c_library/out/libc_library.a
+built yindolve yindolve run
+built c_library libc_library.a lib
 mkdir -p "$to" || fail "cannot make the folder $to"
 
-put 755 target/bin/yindolve bin
-put 644 target/staticlib/libc_library.a lib libyindolve.a
+put 755 "$program" bin
+put 644 "$library" lib libyindolve.a
 put 644 include/yindolve.h include
 
 mkdir -p "$to/lib/pkgconfig"

@@ -1,15 +1,8 @@
 #!/usr/bin/env bash
-# All tests: layout, proofs, must-fail edits and test programs (rt ci), then the host tests. The gate's verdict 'N passed, M failed' is the last line; a host test
-# that fails counts among its failed ones.
+# All tests: layout, proofs, must-fail edits, test programs (rt ci, which also refuses what is not laid out), then the host tests. The gate's verdict 'N passed, M failed' is
+# the last line; a host test that fails and a must-fail edit that is none count among its failed ones.
 set -uo pipefail
 cd "$(dirname "$0")" || exit 2
-
-rt fmt --check || { echo "rt fmt --check is not clean"; exit 1; }
-
-# Crates of a layer are checked so many at a time, and the next ones wait for all of them: with more than the processors fewer stand idle. A check takes up to 6 GB, and those that take most are alone with a small one in their layer.
-export RT_JOBS="${RT_JOBS:-6}"
-# The prover's allocator gives no page back before its check ends: a tenth less of its processor time, a fifth more of its memory.
-export MIMALLOC_PURGE_DELAY="${MIMALLOC_PURGE_DELAY:--1}"
 
 log=$(mktemp)
 first_log=$(mktemp)
@@ -29,6 +22,17 @@ fi
 rt ci 2>&1 | tee "$log" | sed -u '$d'
 status=${PIPESTATUS[0]}
 verdict=$(tail -n 1 "$log")
+# A run that says nothing of this kind has not passed.
+if ! grep -qx '[0-9]* passed, [0-9]* failed' <<<"$verdict"; then
+    echo "$verdict"
+    verdict='0 passed, 1 failed'
+    [ "$status" -ne 0 ] || status=1
+fi
+
+# Must-fail edits that cannot be applied or read: rt ci counts them in its line 'rt: ok' and passes.
+bad=$(sed -n 's/^rt: ok;.*must-fail edits: [^;]*, \([0-9][0-9]*\) bad\(;.*\)\{0,1\}$/\1/p' "$log" | tail -n 1)
+bad=${bad:-0}
+[ "$bad" -eq 0 ] || echo "bad must-fail edits: $bad"
 
 # The failures that the last line of a host test's log tells; 1 where it tells none.
 failures() {
@@ -37,15 +41,15 @@ failures() {
     echo "${n:-1}"
 }
 
-# The other host tests, their own verdict to $host_log. rt ci has removed the static library: it is built again from what is proved, beside the tests that do not need it.
+# The other host tests, their own verdict to $host_log. rt ci builds the program but not the static library, which is built beside the tests that do not need it.
 host_tests() {
-    { rt staticlib c_library >"$library_log" 2>&1; echo $? >"$library_status"; } &
-    YINDOLVE_LIBRARY_STATUS=$library_status bash host/test.sh --rest target/bin/yindolve 10 2>&1 | tee "$host_log" | sed -u '$s/^/host tests: /'
+    { (cd crates/c_library && rt lib) >"$library_log" 2>&1; echo $? >"$library_status"; } &
+    YINDOLVE_LIBRARY_STATUS=$library_status bash host/test.sh --rest crates/yindolve/out/yindolve 10 2>&1 | tee "$host_log" | sed -u '$s/^/host tests: /'
     wait
     [ "$(cat "$library_status")" = 0 ] || tail -n 20 "$library_log"
 }
 
-failed=0
+failed=$bad
 if [ "$status" -ne 0 ]; then
     echo "the host tests are left out, since rt ci did not pass"
     [ -z "$first" ] || kill "$first" 2>/dev/null
@@ -55,10 +59,10 @@ else
     wait "$first"
     host_tests
     sed '$s/^/host tests beside the proofs: /' "$first_log"
-    failed=$(($(failures "$first_log") + $(failures "$host_log")))
+    failed=$((failed + $(failures "$first_log") + $(failures "$host_log")))
 fi
 
-if [ "$failed" -ne 0 ]; then
+if [ "$status" -eq 0 ] && [ "$failed" -ne 0 ]; then
     echo "${verdict%% passed,*} passed, $failed failed"
     exit 1
 fi

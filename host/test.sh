@@ -11,7 +11,7 @@ seconds=${2:-20}
 if [ -n "$program" ]; then program=$(realpath "$program"); fi
 if [ -n "${YINDOLVE_LIBRARY:-}" ]; then YINDOLVE_LIBRARY=$(realpath "$YINDOLVE_LIBRARY"); export YINDOLVE_LIBRARY; fi
 cd "$(dirname "$0")" || exit 2
-library=${YINDOLVE_LIBRARY:-../target/staticlib/libc_library.a}
+library=${YINDOLVE_LIBRARY:-../crates/c_library/out/libc_library.a}
 
 passed=0
 failed=0
@@ -140,7 +140,7 @@ readme() {
     local block='/^## The wholesaler/ { on = 1 } on && /^```/ { n++; next } on && n == wanted' lines said
     lines=$(awk -v wanted=1 "$block" ../README.md | grep -v '^./install.sh\|^export')
     said=$(awk -v wanted=3 "$block" ../README.md | grep -v '^\.\.$')
-    rm -rf target/readme && mkdir target/readme && ln -s ../../../examples target/readme/examples
+    rm -rf target/readme && mkdir target/readme && cp -r ../examples target/readme/examples
     (cd target/readme && PATH=$PWD/../prefix/bin:$PATH bash -ec "$lines" 2>../readme.log | grep '^[0-9a-z]*  ') >target/readme/said
     prints "$said" cat target/readme/said
 }
@@ -156,33 +156,6 @@ program_at_its_ends() {
     yes '(show)' | head -n 100000 | "$program" | head -n 1 >target/said
     status=("${PIPESTATUS[@]}")
     [ "${status[2]}" -eq 141 ] || { echo "status ${status[2]} at a closed pipe"; return 1; }
-}
-
-# frame NAME: the bytes of stack that a function of the program takes, by its first instructions: large frames are touched page by page, in a loop that counts in r11.
-frame() {
-    local code n bytes=0
-    code=$(sed -n "/<$1>:\$/,/^\$/p" target/program.asm | grep -o 'sub *\$0x[0-9a-f]*,%r\(sp\|11\)$')
-    if [ -z "$code" ]; then echo "the program has no function $1 with a frame" >&2; return 1; fi
-    if grep -q r11 <<<"$code"; then code=$(grep -v '0x1000,%rsp' <<<"$code"); fi
-    for n in $(sed 's/.*0x\([0-9a-f]*\),.*/\1/' <<<"$code"); do bytes=$((bytes + 16#$n)); done
-    echo "$bytes"
-}
-
-# Room that few calls need stands in functions of its own, which the compiler did not put into those that are called often: these would touch all its pages each time.
-frames() {
-    local name most bytes
-    objdump -d --no-show-raw-insn "$program" >target/program.asm || return 1
-    while read -r name most; do
-        bytes=$(frame "$name") || return 1
-        if [ "$bytes" -gt "$most" ]; then echo "$name takes $bytes bytes of stack, above $most"; return 1; fi
-    done <<'LIST'
-steps::shared 65536
-apart::combine_apart 65536
-valuing::value_indexed 8192
-lines::perform_run 400000
-combination::combine_many 400000
-apart::join_many 400000
-LIST
 }
 
 verdict() {
@@ -211,7 +184,6 @@ if [ -n "$program" ] && [ -x "$program" ]; then
     step target/release/tests bellman "$program" seconds "$((seconds / 2))"
     step target/release/tests round "$program" seconds "$((seconds / 2))"
     step program_at_its_ends
-    step frames
 else
     echo "no program${program:+ at $program}: its texts are left out"
 fi
@@ -243,10 +215,10 @@ if [ -f "$library" ]; then
     step desk_explain "$((seconds / 4 + 1))"
     if ! command -v chromium chromium-browser google-chrome >/dev/null; then echo "no Chromium is installed: that a browser shows a report is left out"; fi
 else
-    echo "no static library at $library (rt staticlib c_library builds it): its tests are left out"
+    echo "no static library at $library (rt lib in crates/c_library builds it): its tests are left out"
 fi
 
-if [ -f ../target/bin/yindolve ] && [ -f ../target/staticlib/libc_library.a ]; then
+if [ -f ../crates/yindolve/out/yindolve ] && [ -f ../crates/c_library/out/libc_library.a ]; then
     step installed
     step readme
 fi

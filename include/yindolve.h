@@ -1,7 +1,7 @@
 /* Yindolve, a value engine on first-order decision diagrams: the functions of the static library, for C and C++.
  *
- * Build and link, from a checkout (`rt staticlib c_library` builds the library) and from where `install.sh PREFIX` put it:
- *     cc -Iinclude -o program program.c target/staticlib/libc_library.a
+ * Build and link, from a checkout (`rt lib` in crates/c_library builds the library) and from where `install.sh PREFIX` put it:
+ *     cc -Iinclude -o program program.c crates/c_library/out/libc_library.a
  *     cc -o program program.c $(PKG_CONFIG_PATH=PREFIX/lib/pkgconfig pkg-config --cflags --libs yindolve)
  * examples/value.c, examples/session.c and examples/save.c are whole programs. Linux on x86-64.
  *

@@ -1,4 +1,4 @@
-//! Links the static library: the one that YINDOLVE_LIBRARY names, or target/staticlib/libc_library.a of the repository. Its file may have
+//! Links the static library: the one that YINDOLVE_LIBRARY names, or crates/c_library/out/libc_library.a of the repository. Its file may have
 //! any name: it is copied to the build's own folder as libyindolve.a.
 
 use std::path::{Path, PathBuf};
@@ -7,7 +7,7 @@ use std::path::{Path, PathBuf};
 const NAMES: [&str; 2] = ["libyindolve.a", "libc_library.a"];
 /// The newest function, by which an old library is told.
 const FUNCTION: &str = "yindolve_reduce";
-const HELP: &str = "Run `rt staticlib c_library` at the root of the repository, or let YINDOLVE_LIBRARY name a library or its folder.";
+const HELP: &str = "Run `rt lib` in crates/c_library of the repository, or let YINDOLVE_LIBRARY name a library or its folder.";
 
 fn main() {
     println!("cargo:rerun-if-env-changed=YINDOLVE_LIBRARY");
@@ -43,7 +43,7 @@ fn main() {
 }
 
 fn built() -> PathBuf {
-    Path::new(env!("CARGO_MANIFEST_DIR")).join("../../target/staticlib").join(NAMES[1])
+    Path::new(env!("CARGO_MANIFEST_DIR")).join("../../crates/c_library/out").join(NAMES[1])
 }
 
 /// The library in a folder, or the path itself.

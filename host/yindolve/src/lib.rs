@@ -53,8 +53,8 @@
 //!
 //! # Building
 //!
-//! The static library is built by `rt staticlib c_library` at the root of the repository, which writes
-//! `target/staticlib/libc_library.a`; `install.sh` installs it as `libyindolve.a`. The variable `YINDOLVE_LIBRARY` may name either
+//! The static library is built by `rt lib` in `crates/c_library` of the repository, which writes
+//! `out/libc_library.a` there; `install.sh` installs it as `libyindolve.a`. The variable `YINDOLVE_LIBRARY` may name either
 //! file, or a folder that has one. It runs on Linux on x86-64. A call uses less than a megabyte of stack and touches it page by
 //! page, so that a thread with too little of it ends as by any overflow of its stack.
 
