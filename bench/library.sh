@@ -1,12 +1,13 @@
 #!/usr/bin/env bash
-# library.sh TREE OUT: a static library of the calls that sides.rs and main.rs measure, compiled from the sources of TREE as `rt staticlib` does it but with NO proof. To measure
-# a tree that is not proved here, and for nothing else.
+# library.sh TREE OUT: a static library of the calls that sides.rs and main.rs measure, compiled from the sources of TREE as `rt lib` does it but with NO proof. To measure
+# a tree that is not proved here, and for nothing else. It needs the older kit (kit 5), by its rattle-cases, and sources as that kit spells them.
 set -euo pipefail
 here=$(cd "$(dirname "$0")" && pwd)
 tree=$(realpath "$1")
 out=$(realpath -m "$2")
 home=$(cd "$(dirname "$(realpath "$(command -v rt)")")/.." && pwd)
 kit=$home/on/$(uname -m)
+[ -x "$kit/bin/rattle-cases" ] || { echo 'library.sh: this kit has no rattle-cases: the older kit (kit 5) is needed' >&2; exit 1; }
 room=$(mktemp -d)
 trap 'rm -rf "$room"' EXIT
 
