@@ -11,7 +11,7 @@
 --     bytes and forms one, and leaves below 100 are few
 --   holds-formed: the rows of each row step, and the leaves, are among them
 --   test-pairs, sum-pairs: the three combinations of a row step have few pairs
---   test-times, other-times, sum-is: what a row step of a written test forms
+--   test-times, other-times, sum_is: what a row step of a written test forms
 --   fits-form, fits-combine: a step whose rows are among those meets no 9
 --   form-accepted: the words of a value diagram's form, where 19 is not given, build the very diagram
 --   reward-accepted: so the round trip with its reward built; not-refused: no number is met; value-accepted: so for a session's value diagram after (start)

@@ -7,7 +7,7 @@
 --   field, fields, name_field, edge_field, leaf_field == a number, numbers, a name, ` true` or ` false`, ` leaf`, a space before each
 --   value_head, backup_head, cut_head, reduce_head, best_head, count_head, did_head, refused_head, row_head, line_feed, line_end == the words of answers, and the end of a line
 --   answer_line == the line of an answer
---   rowLine, row_line_at, rowLines == the line of a row; of row k of a listing; of the first n rows
+--   row_line, row_line_at, row_lines == the line of a row; of row k of a listing; of the first n rows
 --   count_line_at, count_lines == line k of a spread, the first n lines (document 02, L11)
 --   answer_bytes == an answer's bytes, (show) with the rows of the value's listing, (text) with its form, (count n) with the lines of a spread
 --   most_bytes == 92,160, the bytes of any answer at most
@@ -17,7 +17,7 @@
 --
 -- Theorems
 --   digits-read: the digits of a number read back as it
---   digits-number: and are a number as texts have it
+--   digits_number: and are a number as texts have it
 --   answer-short, counts-short: an answer of machine words, of at most 1,024 rows or lines, has at most most_bytes bytes
 --
 -- The rest of Writing has inner contracts.

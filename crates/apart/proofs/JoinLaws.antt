@@ -82,7 +82,7 @@ module _ (op : Operation) (limit : ℕ) (a b : Diagram) (rs : List Diagram) wher
       go (full q x y z) = (x, y, z)
       go (row q t) = absurd (let o : ◌≡◌ {A = ℕ} 0 1 = cc in omega arith)
 
--- the laws of `joinedAnswer`
+-- the laws of `joined_answer`
 module _ (op : Operation) (ar : List ℕ) (a b : Diagram) (rs : List Diagram) where
   answer-pairs : most_pairs < pair_count op a b → Refused Pairs ≡ joined_answer op ar a b rs
   unfolding joined_answer

@@ -57,7 +57,7 @@ module _ (d : Diagram) (out : List ℕ) where
   unfolding write_words
   words-few h = rw (le-leb (length (rows d)) most_rows h)
 
--- the laws of `resultAnswer`
+-- the laws of `result_answer`
 module _ (ar : List ℕ) (d : Diagram) (g : Regular ar d) (p : ℕ) where
   count : length (rows (closed ar d)) ≡ length (rows d)
   count = closed-count ar d g.arities g.fine

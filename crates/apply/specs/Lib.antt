@@ -9,7 +9,7 @@
 --   finished, combination == results are closed up only when apart; the result
 --
 -- Definitions: what is counted
---   Pair, samePair == two diagrams; equal pairs
+--   Pair, same_pair == two diagrams; equal pairs
 --   absorbs, ends == in a product leaf 0 gives 0 with every value; a pair without successors: two leaves, or one that absorbs (document 02, L4)
 --   descend, successor == an operand goes down if its label is the lower one or equal; the pair that follows by true, by false
 --   ClosedPairs, LeastPairs == a set with the successors of each pair that does not end; the least such set that holds the roots
@@ -31,9 +31,9 @@
 --   answer_before, recounted == the operation's own checks by these pairs; an answer with another count of pairs
 --
 -- Theorems
---   eval-apply: the leaf of the result is the operation on the operands' leaves, for every choice
+--   eval_apply: the leaf of the result is the operation on the operands' leaves, for every choice
 --   apply-unique: the result is the only ordered reduced diagram with that meaning
---   good-apply: it is a good diagram if no pair is too high and its rows are at most 1,024
+--   good_apply: it is a good diagram if no pair is too high and its rows are at most 1,024
 --   pairs-least: the pairs are the least set that holds both roots and the successors of each pair that does not end
 --   visit-count: the walk that finishes each pair once finishes pair_count pairs
 --   formed-rows: the rows that the pairs form are those of the result

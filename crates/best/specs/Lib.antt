@@ -30,7 +30,7 @@
 --   best-run: behind any list of backups, cuts and reductions, the move answered is the first whose sum is highest, and M(k+1) is S^(k+1) · M0 plus that sum
 --   best-steps: so with any value diagram of the values Mk
 --   best-backup: and that is the value that the next backup states, if it is accepted
---   first-one: no two moves are the first whose sum is highest
+--   first_one: no two moves are the first whose sum is highest
 --   passes-answered, answered-passes: a move is answered exactly if every action passes
 --   stopped-refused, refused-stopped: it is refused exactly as the first action that does not pass stops: by its calls, or by 15 of a binding
 --   backup-calls, backup-large: where the next backup is accepted, so are the calls of every action's sum, and only 15 refuses

@@ -1,5 +1,5 @@
 -- The operations that a diagram's words are turned into, in the order of the words, and a machine with two stacks that runs them (document 01, section
--- 'Text': 'read as the row step above when it closes'). It builds what `readDiagram` reads (`build-reading`).
+-- 'Text': 'read as the row step above when it closes'). It builds what `read_diagram` reads (`build-reading`).
 use Rattle.std.specs.Prelude.{cond, List, [], ◌∷◌, ℕ, length, ltb}
 use Rattle.refusal.specs.declared.Refusal.TheVariants.{Form}
 use Rattle.label.specs.declared.Test.{Test}

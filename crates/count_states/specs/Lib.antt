@@ -10,10 +10,10 @@
 --   digits, first_facts == a tuple by its number; a predicate's facts by theirs
 --   Declared, Fillable, Writable, Follow == what writing the rows of ground facts asks and gives
 --   picked, Choosing, Chosen == the rows of a choice
---   line_words, valueAt, states_at, entryAt, entriesAt, put_entry == entries in words
+--   line_words, value_at, states_at, entry_at, entries_at, put_entry == entries in words
 --   once, more, enter == the entries after one more state
 --   most_states, Enterable, Seeks, is_there, Shifted, Entered == what entering a value asks and gives
---   Valuing, Choices, valueOf, large_at, rows_spread == what valuing the choices asks; a choice's value, by its rows; the spread by rows
+--   Valuing, Choices, value_of, large_at, rows_spread == what valuing the choices asks; a choice's value, by its rows; the spread by rows
 --   Spreading == room for the lines
 
 pub mod Counted

@@ -17,21 +17,21 @@
 --
 -- Definitions: which edge goes, and what is left
 --   Choice, choice_below, choice == the highest row, true edge first, whose edge may go; or none
---   reduced, cutAt == a diagram reduced; the edge of the row r on the side b led to leaf 0, wherever r stands
+--   reduced, cut_at == a diagram reduced; the edge of the row r on the side b led to leaf 0, wherever r stands
 --   cut_diagram == the edge of row k led to leaf 0, then reduced and closed up
 --
 -- Definitions: truths
 --   says, Follows == the truth of what a label says, where each term has its object; truths that follow a path
 --
 -- Definitions: the call
---   Edge, edgeOf, is_true_edge == the true edge or the false one
+--   Edge, edge_of, is_true_edge == the true edge or the false one
 --   Cut, chosen_answer, diagram_answer == row, edge and rows left, or the refusal: 25, 17, then 16
 --   cut_answer == the call on lent words: 14, 18, then its own
 --   written, answer_buffer, cut_buffer == the result buffer then
 --
 -- Theorems
---   minimum-first: with a minimum variable the answer is 25; done-plain: so a cut that is done had none
---   cut-keeps: a cut leaves the number in every state
+--   minimum-first: with a minimum variable the answer is 25; done_plain: so a cut that is done had none
+--   cut_keeps: a cut leaves the number in every state
 --   may_go-sound: the test says no more than document 01's condition; may_go-complete: and no less
 --   matches-sound: what the search finds is a replacement; matches-complete: and it finds one where there is one
 --   matches-order: whatever the order of the literals

@@ -18,12 +18,12 @@
 --   row_tree == the diagram of row k
 --
 -- Definitions: listings
---   labelAt, high_at, low_at == the three words of row i: label, true row, false row; of a leaf its mark, its value, 0
+--   label_at, high_at, low_at == the three words of row i: label, true row, false row; of a leaf its mark, its value, 0
 --   row_count == the words by three
 --   is_leaf_row, is_branch_row == row i is a leaf, is a branch whose label is below its children's, which differ
 --   every_below == p holds of every number below n
 --   equal_rows, are_distinct == two rows are equal; no two are
---   finish, upTo, equal_lists, are_numbered == rows are numbered as a walk from the root finishes them, none unreachable
+--   finish, up_to, equal_lists, are_numbered == rows are numbered as a walk from the root finishes them, none unreachable
 --   is_listing == the words are a listing under the arity list
 --   index, encode, listing == a row's number among rows; the words of rows; the listing of a diagram
 --   tree_at, diagram_of == the diagram of row i; of the last row, the root
@@ -33,7 +33,7 @@
 -- Definitions: variables
 --   occurs == a term stands in a label of the diagram
 --   occurring, variables, minimums == those of n terms that occur; the variables, the minimum variables, ascending
---   isPlain == a diagram without minimum variables
+--   is_plain == a diagram without minimum variables
 --   closed_from, closed == the used variables renamed to m, m + 1, .., the minimum variables to n, n + 1, ..; from the first of each kind on: closing up
 --   after == the second operand's variables follow after the first's, kind by kind: apart
 --

@@ -13,7 +13,7 @@ use Rattle.diagram.specs.Words.{label_at, high_at, low_at}
 use Rattle.diagram.specs.Inner.{Encoded}
 use Rattle.diagram.specs.Listing.{index, encode, listing, tree_at}
 
--- the laws of `treeAt`: nothing else unfolds it
+-- the laws of `tree_at`: nothing else unfolds it
 pub tree-leaf : (ws : List ℕ) (n i : ℕ) → label_at ws i ≡ leaf_mark → tree_at ws (suc n) i ≡ leaf (high_at ws i)
 unfolding tree_at
 tree-leaf ws n i h = rw (eq-eqb (label_at ws i) leaf_mark h, tree_at)

@@ -5,7 +5,7 @@
 --   Equal == neither denominator is 0, and the cross products are equal
 --   plus, times == p + q, p · q
 --   is_below, higher == p is below q, by the cross products; the higher of the two
---   highest_of, totalOf == the highest and the sum over a list
+--   highest_of, total_of == the highest and the sum over a list
 --   highest_to, highest_tuples == the highest over the numbers below n; over all tuples of c objects
 --
 -- Definitions: the value

@@ -7,7 +7,7 @@
 --
 -- Definitions: the machine in lent words
 --   test_at, ops_from, whole_ops, Ops == the operations that words hold
---   tests_of, results_of, machineOf, Stacked == the stacks, by the places of the tests and the rows of the results, and the working space
+--   tests_of, results_of, machine_of, Stacked == the stacks, by the places of the tests and the rows of the results, and the working space
 --   Moves == what running one operation ensures, with room for so many pairs
 --   Buildable, Labelled, Callable, Under, Roomy, RowWritable == what building and writing require
 --   BuiltRow, Builds == what building in the working space ensures, with room for so many pairs

@@ -2,7 +2,7 @@
 --
 -- Definitions: tables
 --   Table == names of variables, ascending; for which choices of objects for them it has an entry; each entry's value
---   sumTo, count_choices == f 0 + .. + f (n - 1); for how many choices of objects for a list of variables a test holds
+--   sum_to, count_choices == f 0 + .. + f (n - 1); for how many choices of objects for a list of variables a test holds
 --   entries == how many entries a table has
 --   leaf_table == a leaf's table: no names, one entry
 --   is_case, join == a truth is the case b; the cases b of an atom joined with a child's table
@@ -29,7 +29,7 @@
 --   root-value: in every state the value of the root's table is the highest leaf; it has no names (root-names) and one entry (root-entries)
 --   lent-value: so for lent words, which are what the call has, and without minimum variables it is their number; lent-names, lent-entries
 --   row-table: a row's table gives for each choice of the variables that rows leading to it test the highest leaf over all choices of the others
---   valued-same: the answer is as before wherever it was no 15; valued-tables, valued-refused, valued-minimum: where it was 15
+--   valued_same: the answer is as before wherever it was no 15; valued-tables, valued-refused, valued-minimum: where it was 15
 --   full-entries, join-entries, aggregate-entries: how many entries a full table, a join and an aggregation have
 --   cases-split: the true and the false cases of a label are all choices for its variables; aggregate-sum: the entries of a row's aggregations
 --   entries-grow: the count grows row by row

@@ -27,7 +27,7 @@ use Rattle.elimination.specs.AboveLaws.{not-true, edge-high, edge-low, tested-ow
 use Rattle.elimination.specs.TableLaws.{Sees, leaf-sees, join-sees, unite-sees, aggregate_all-sees, mem-aggregate_all, Named, join-named, unite-named}
 use Rattle.elimination.specs.TableLaws.{aggregate_all-named, Full, leaf-full, union-full, union-value, aggregate_all-full, aggregate-hit, aggregate-bound}
 
--- the laws of `rowTable`: nothing else unfolds it
+-- the laws of `row_table`: nothing else unfolds it
 pub row-leaf : (s : State) (ar ws : List ℕ) (ts : List Table) (i : ℕ) → label_at ws i ≡ leaf_mark → row_table s ar ws ts i ≡ leaf_table (high_at ws i)
 unfolding row_table
 row-leaf s ar ws ts i e = rw (eq-eqb (label_at ws i) leaf_mark e, row_table)

@@ -2,7 +2,7 @@
 --
 -- Definitions: the words of a tree
 --   Event == a name, ?name, !name, %name, a number, an equality, an atom with its count of terms; the step at the end of an if form; the end
---   firstWord == the place of the first word behind the key word
+--   first_word == the place of the first word behind the key word
 --   name_event, variable_event, parameter_event, minimum_event, number_event, term_event, atom_events == the words of terms and atoms
 --   diagram_events == of a diagram: atom, part for true, part for false, step
 --   item_event, shape_events, words_events == of a word by its sort; of what stands behind a key word, by its shape and by its kind
@@ -11,11 +11,11 @@
 --   Seen, seen == an event, and how many bytes it takes with the space behind it
 --   Word == a name's key, and the place of what follows
 --   space, behind, space_bit, spaces == spaces passed and counted
---   name_key, wordAt, is_if, atom_front, number_front, front_of == the event at the front of the bytes
+--   name_key, word_at, is_if, atom_front, number_front, front_of == the event at the front of the bytes
 --   is_end, events_from, events_of == all events of the bytes
 --
 -- Definitions: words without a diagram
---   no_key, key_in, numberIn == the key, the number of a word
+--   no_key, key_in, number_in == the key, the number of a word
 --   keys_in, numbers_in == of all words
 --
 -- Theorems

@@ -16,7 +16,7 @@ abbrev pub object_at : List ℕ → ℕ → ℕ → ℕ
 object_at facts i j = get_or facts (i * fact_words + 1 + j) 0
 
 -- a number for the fact that p holds of f 0, f 1, .. f (k - 1): begun with p, predicates some way apart, then one object after the other. Of an object what
--- is below `hashEnd` counts: where there are more objects than that, there is one valuation
+-- is below `hash_end` counts: where there are more objects than that, there is one valuation
 abbrev pub hash_end : ℕ
 hash_end = 4294967296
 

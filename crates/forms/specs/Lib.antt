@@ -9,7 +9,7 @@
 --   brackets == how many brackets are open together
 --
 -- Definitions: readers, each answering how many bytes it takes
---   _▹_, byte, form == one form, then the next from where it ended; a byte; a form at a place
+--   ◌▹◌, byte, form == one form, then the next from where it ended; a byte; a form at a place
 --   Sort, item_form, term_form, marked_form, is_mark == one word of a sort: name, ?name, !name, a term (any of these or %name), number
 --   many_form, plain_form, equality_form, inner_form, atom_form == words with a space before each; the insides of an atom; an atom
 --   head_form, if_form, diagram_form == if ATOM; an if form; a number or an if form, of at most 64 open brackets

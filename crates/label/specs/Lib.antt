@@ -13,19 +13,19 @@
 --
 -- Definitions: terms, atoms, labels
 --   is_constant, is_parameter, is_variable, is_minimum, is_term == t is the number of a constant, a parameter, a (maximum) variable, a minimum variable; of one of these
---   Kind, kindOf == the kind of the term with a number, or that no term has it (an enum of the code)
+--   Kind, kind_of == the kind of the term with a number, or that no term has it (an enum of the code)
 --   constant_term, parameter_term, variable_term, minimum_term == the number of constant, parameter, variable, minimum variable i
 --   all_at_most, are_arities == an arity list: 32 arities, the first of them 2, each at most 6
 --   Atom == a predicate and six places, unused ones 0 (a struct of the code)
 --   packed, weighed, Label == the number of an atom: predicate · 2^48 + t1 · 2^40 + .. + t6, first place highest; it as a struct of the code
 --   predicate_of, place_at, unpacked == the predicate, place k and the atom of a label
---   placesOf, placeIn, atom_from == the places of an atom; place k of it; the atom of a predicate and its places
+--   places_of, place_in, atom_from == the places of an atom; place k of it; the atom of a predicate and its places
 --   place_fits, places_fit == place k of a predicate of arity n holds a term, or 0 where it is unused
 --   in_order == an equality has its smaller term first, so that t = t is no label
 --   is_atom, is_label, is_label_under == an atom, a label under an arity list; the list is one, and it a label under it
 --   terms_of == the terms of an atom: its used places
 --   Test == what an atom asks: a label, or t = t, which is plain truth (an enum of the code)
---   testOf, labelOf, equates, equal_atom == what an atom asks: its label; of an equality plain truth, or the label with the smaller term first
+--   test_of, label_of, equates, equal_atom == what an atom asks: its label; of an equality plain truth, or the label with the smaller term first
 --
 -- Definitions: the order of labels, as the thesis writes it (document 02, L3)
 --   kind_rank, term_before == constants before parameters before variables before minimum variables; two terms by kind, then by number

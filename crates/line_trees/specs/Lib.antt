@@ -1,6 +1,6 @@
 -- The reply to a line by its tree, and the answers of a text by the trees of its lines (document 01, sections 'Text', 'Refusals by trade word' and 'A run, whole').
 -- A reader of these believes how trees are written (text Line, forms Tree), that names are told apart by `key_of` (words KeyLaws `name-key` shows it), that numbers
--- above 10^18 are held at 10^18 + 1 (`value_of`), what an atom asks (`test_of`, `atomFrom`), where a line may stand (`ruleOf`, `allowed`), the row step (build
+-- above 10^18 are held at 10^18 + 1 (`value_of`), what an atom asks (`test_of`, `atom_from`), where a line may stand (`rule_of`, `allowed`), the row step (build
 -- Build) and what an accepted line does (session), and no reader of bytes, no pass over words and no machine with stacks.
 --
 -- Definitions: a diagram's words

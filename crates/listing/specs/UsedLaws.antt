@@ -31,7 +31,7 @@ same_tests true b f g = sym (f refl)
 same_tests false true f g = g refl
 same_tests false false f g = refl
 
--- the laws of `occurs`, `rowTerms` and `mentioned`: nothing else unfolds them
+-- the laws of `occurs`, `row_terms` and `mentioned`: nothing else unfolds them
 module _ (ar : List ℕ) (t : ℕ) where
   pub occurs-leaf : (v : ℕ) → occurs ar t (leaf v) ≡ false
   unfolding occurs

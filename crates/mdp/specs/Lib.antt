@@ -20,7 +20,7 @@
 --   row_of_calls, backup == the best over the actions, plus the reward times S^(k+1), apart; 12 first; the first refusal met is the answer
 --   leaves, cut_outcome == a cut as an outcome
 --   Call, Held, held_with, call, taken == a backup, a cut or a reduction; the value diagram and k; what a call gives of them or what refuses it; a refused call leaves them
---   begin, runFrom, run == the reward and 0, then a list of calls
+--   begin, run_from, run == the reward and 0, then a list of calls
 --
 -- Definitions: document 01's run
 --   for_first, no_truths, hub, stock, equals, run_truth, run_model == its labels and its model

@@ -26,10 +26,10 @@
 --   split == maximum variables by one valuation, minimum variables by another
 --
 -- Theorems
---   number-is: the number computed is the number; number-one: there is one; number-equal: so each number is the computed one; number-attained: it is a leaf
+--   number_is: the number computed is the number; number-one: there is one; number-equal: so each number is the computed one; number-attained: it is a leaf
 --   number-reads, reads-number: it is the highest, over the maximum variables, of the lowest leaf over the minimum ones
 --   number-plain: without minimum variables it is the highest leaf; highest-number and number-highest, of the relations
---   fine-plain: a diagram that is plain by its labels (diagram Variables, isPlain) has none; occur-terms, terms-occur: the terms of what it says are those of its labels
+--   fine-plain: a diagram that is plain by its labels (diagram Variables, is_plain) has none; occur-terms, terms-occur: the terms of what it says are those of its labels
 --   number-of-sum, number-of-max: of operands apart, the sum and the higher of their numbers (number-apart: for each operation that rises)
 --   number-of-product: times a diagram without variables, the product; number-fixed: whose number is its leaf; number-scale: times a number
 --   number-max-shared: names may be shared in a max where there is no minimum variable
@@ -37,7 +37,7 @@
 --   number-closed: so closing up does; number-combined: sum, product and max done apart give the sum, product and max of the numbers
 --   number-of-freed: freeing takes the highest over all tuples of objects of the number with the tuple for the parameters
 --   number-next: what regression asks: a diagram without parameters, read in a state of the same objects
---   number-by, number-same: numbers compared by valuations; of equal leaves
+--   number_by, number_same: numbers compared by valuations; of equal leaves
 --   table-number: one van that serves all shelves, by computation; table-names: names kind by kind
 
 -- definitions

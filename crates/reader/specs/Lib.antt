@@ -1,7 +1,7 @@
 -- Reading the words of a line with a diagram from lent bytes, into lent words (what they come to: crate reading).
 --
 -- Definitions
---   opOf, op_at, ops_in == operations in lent words, two to each
+--   op_of, op_at, ops_in == operations in lent words, two to each
 --
 -- Theorems
 --   read-diagram: the operations that are read of a diagram's words are those of a good diagram, with values and labels in their range

@@ -6,7 +6,7 @@
 --   constant_number, parameter_number == a declared constant, or 2; a parameter of this action, or 6
 --   met == the variables of one kind met so far, in the order of their first occurrence; one more than the limit is kept
 --   Met, arguments == the variables met, kind by kind: ?name and %name; the arguments of a truth diagram, none for a weight
---   last_variable, numberIn, variable_number == variables of a kind are numbered by first occurrence; an unknown one is 6 where none may be new
+--   last_variable, number_in, variable_number == variables of a kind are numbered by first occurrence; an unknown one is 6 where none may be new
 --   minimum_number == a minimum variable stands in a reward, or it is 6 (document 02, L12)
 --
 -- Definitions: the pass
@@ -18,10 +18,10 @@
 --   Written, is_within, written, begin, finished, reading == all words; then more variables of a kind than its limit are 8
 --
 -- Definitions: the variables of a reward by ascending N, kind by kind (document 02, L2 and L12)
---   Kind, minimum_of, variable_of, word_keys, keysOf, variable_keys, minimum_keys == the variables of a kind among the words, as often as they are written
+--   Kind, minimum_of, variable_of, word_keys, keys_of, variable_keys, minimum_keys == the variables of a kind among the words, as often as they are written
 --   occurring, occurring_met == each once, in the order of their first occurrence, however many
 --   letter_v, takes == the byte v; all bytes of a word are taken
---   is_numbered, numberOf, all_numbered == a name is v and N without leading zeros, nothing else; its N; every variable is so
+--   is_numbered, number_of, all_numbered == a name is v and N without leading zeros, nothing else; its N; every variable is so
 --   inserted, by_number == sorted in by ascending N, each once
 --   variables_first, met_first == the variables that have their number before the words: of each kind all, or none
 --   reward_reading == the words of a reward
@@ -36,7 +36,7 @@
 --   Result, having == what a part of the line stands for, with the variables met by its end; so for an outcome
 --   resolve_term, resolve_terms, resolve_atom, resolve_diagram == every name resolved, in the order of the words
 --   joined, testing, branching == a term before the others; the test of the terms; the branch of test and parts
---   opsOf == the operations of a diagram: test, part for true, part for false, step
+--   ops_of == the operations of a diagram: test, part for true, part for false, step
 --   diagram_reading == what a diagram's words come to
 --   Reach, reach, maximum_reach, Named == how many variables of each kind may be named; the terms that may be: a minimum variable in a reward alone
 --

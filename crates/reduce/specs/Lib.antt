@@ -5,12 +5,12 @@
 --   winning, is_on_path, stays_in == the paths that are marked; an edge on one of them
 --
 -- Inner contracts: the search
---   stacked, signOf == the ground literals known, the last first; what they tell of a fact
+--   stacked, sign_of == the ground literals known, the last first; what they tell of a fact
 --   ways, formed_on, winners_on, better_of == the ways down a diagram; what is formed on them; which paths win
 --   Searching, Standing, Searched == what the search requires and finds
 --
 -- Inner contracts: facts
---   factOf, codeOf, codesOf, choice_codes, clashing, is_clear == facts and ground literals as numbers; no fact is both true and false
+--   fact_of, code_of, codes_of, choice_codes, clashing, is_clear == facts and ground literals as numbers; no fact is both true and false
 --   digits == a valuation by its number
 --   Tabling, Tabled == the facts of the rows' labels under every valuation
 --

@@ -11,9 +11,9 @@
 --   row_step == (T times true result) + ((1 - T) times false result), in the order of document 01's steps, the rows of T and 1 - T formed
 --
 -- Definitions: replacement and regression
---   resultOf, row_result, row_results, lastOf, over_rows == the rows of a diagram in number order, each by the row step of its T
+--   result_of, row_result, row_results, last_of, over_rows == the rows of a diagram in number order, each by the row step of its T
 --   argument, replacement == the terms of p(t1 ..) for the arguments, all together; a diagram with its terms replaced
---   Truths, truthOf == the truth diagrams of a variant, by predicate; equality has none
+--   Truths, truth_of == the truth diagrams of a variant, by predicate; equality has none
 --   truth_from, truth_at == T for a label: the truth diagram with its arguments replaced; without one the test of the label
 --   regression, regressed == the rows of the value diagram in one working space; as one call, its result held to 1,024 rows
 --   stepped, rebuilt, replaced, truth_given, truth_diagram, regressed_diagram == the same diagrams where nothing is refused, without the space

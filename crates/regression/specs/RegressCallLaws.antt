@@ -28,7 +28,7 @@ use Rattle.regression.specs.TellsLaws.{regressed-tells}
 use Rattle.regression.specs.RegressCall.{truth_count, truth_words, truths_of, are_listings, leaf_above, any_occurs}
 use Rattle.regression.specs.RegressCall.{unbound_variable, check_truth, check_truths, regress_outcome, regress_answer, regress_result}
 
--- the laws of `truthsOf`, `areListings`, `leafAbove`, `anyOccurs` and `checkTruths`: nothing else unfolds them
+-- the laws of `truths_of`, `are_listings`, `leaf_above`, `any_occurs` and `check_truths`: nothing else unfolds them
 pub truths-none : (truths spans : List ℕ) (p : ℕ) → truth_count spans p ≡ 0 → truths_of truths spans p ≡ none
 unfolding truths_of
 truths-none truths spans p e = rw (eq-eqb (truth_count spans p) 0 e)

@@ -25,7 +25,7 @@ use Rattle.regression.specs.StepLaws.{step_gives, steady-step}
 use Rattle.regression.specs.Regression.{result_of, row_result, row_results, last_of, over_rows, argument, replacement, Truths, truth_of, truth_from, truth_at, regression, regressed}
 use Rattle.regression.specs.Result.{stepped, rebuilt, replaced, truth_given, truth_diagram, regressed_diagram}
 
--- the laws of `rowResult`, `rowResults` and `overRows`: nothing else unfolds them
+-- the laws of `row_result`, `row_results` and `over_rows`: nothing else unfolds them
 pub row-leaf : (run : ℕ → Run Diagram) (whole results : List Diagram) (v : ℕ) → row_result run whole results (leaf v) ≡ form (leaf v)
 unfolding row_result
 row-leaf run whole results v = refl

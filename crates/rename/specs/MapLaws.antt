@@ -141,7 +141,7 @@ pub used-minimums : (ar : List ℕ) (d : Diagram) (used : List ℕ) → Marks ar
 unfolding used_minimums minimums
 used-minimums ar d used m = used-occurring ar d used m first_minimum minimum_count (omega arith)
 
--- the laws of `closeAt`: nothing else unfolds it
+-- the laws of `close_at`: nothing else unfolds it
 module _ (used : List ℕ) (first minimum t : ℕ) where
   pub close-low : t < first_variable → close_at used first minimum t ≡ t
   unfolding close_at

@@ -1,10 +1,10 @@
 -- Replay of logged lines (document 02, L10). The line and its code are in session and desk_lines.
 --
 -- Definitions: one line
---   Did, action_of, variantOf == (did action variant object ..), its names found; the action and the variant that it names
+--   Did, action_of, variant_of == (did action variant object ..), its names found; the action and the variant that it names
 --   no_action, no_variant == what stands for a number that names none
 --   Replay, in_hand, begun == the state as it is lent, count and total; the state in hand; count 0 and total 0
---   rowsAt, fact_rows, flat, factsOf == the facts of a state as rows, predicate by predicate, lowest objects first
+--   rows_at, fact_rows, flat, facts_of == the facts of a state as rows, predicate by predicate, lowest objects first
 --   state_next, moved_by == the state that the variant's truth diagrams give; it, in hand
 --   reward_here, is_first, reward_met == the reward in hand; no line was accepted yet; reward before and after on the first line, later the reward after
 --   reward_ends, counted == 15 of the reward, here; the state moved, one more, the rewards met

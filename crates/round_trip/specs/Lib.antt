@@ -9,7 +9,7 @@
 --   Different, AreNames, Declared == no two names alike; each a name; tables as declarations leave them
 --   Covers == every constant and every predicate of a diagram is declared
 --   reward_names, words_read == the names on a reward line under these tables; the words of the form as a reward line's
---   readingOf == a diagram as it is written
+--   reading_of == a diagram as it is written
 --   KeysOf == a session's keys are those of the names in a table
 --   RoundTrip == the form's line is well formed and within its limits, its words are accepted, and the reward built from them is the very diagram, with its
 --     listing; 11 is not met
@@ -20,7 +20,7 @@
 --     kind by kind
 --   form-good: a form is a well-formed diagram by the grammar; form-resolved: resolved, it is the diagram row for row
 --   reward-no-value: a reward that is read from words never meets 11 when it is built
---   round-trip: for a value diagram (session `GoodValue`) under tables that declare what it names, where 19 is not given: RoundTrip
+--   round_trip: for a value diagram (session `GoodValue`) under tables that declare what it names, where 19 is not given: RoundTrip
 --   tables-of: the names that a session's keys stand for are printed as declared; value-round-trip: the round trip of a session's value diagram after (start)
 --   names-written, variables-written, kinds-written, forms-printed: cases of the requests on the definitions
 --

@@ -20,16 +20,16 @@
 --   Spacing == the answers of a text and of the same text without its blank lines: those of one list of replies, each under its line's number
 --
 -- Definitions: the run behind lines
---   callOf, call_then, callsOf == the backups, cuts and reductions that lines ask for, in order, accepted or refused
+--   call_of, call_then, calls_of == the backups, cuts and reductions that lines ask for, in order, accepted or refused
 --   moves_state, NoStateLine == the kinds of lines that change the state in hand; none of the lines is of them
---   isRefused, one_if_backup, accepted_backup, accepted_backups == how many of the lines, with their replies, are accepted (backup) lines
+--   is_refused, one_if_backup, accepted_backup, accepted_backups == how many of the lines, with their replies, are accepted (backup) lines
 --   too_large == no way of working may be taken for the value diagram in the state in hand
 --   HoldsValues == in every state the number of the value diagram is Mk
 --   RunOf == the model is the one accepted at (start); value diagram and k are those of a run of it, of the very backups, cuts and reductions asked for behind it;
 --            k counts the accepted (backup) lines; HoldsValues
 --
 -- Theorems: demand 1 for texts
---   one-answer: every line has exactly one reply: none where it is blank, a refusal, or the answer of its kind; and the session behind it, by its kind
+--   one_answer: every line has exactly one reply: none where it is blank, a refusal, or the answer of its kind; and the session behind it, by its kind
 --   refused-leaves: a refused line leaves the session as it was
 --   reply-prints: a line that is answered by a form is an accepted (text), and prints the value's form (document 02, L2); reply-shows: so for (show)
 --   reply-moves: so for (best), it prints the move (document 02, L9); reply-counts: so for (count n), it prints the entries (L11); reply-replays: so for
@@ -52,10 +52,10 @@
 --   opening-good: the session before the first line is good
 --   reply-good: every line keeps a session good
 --   objects-good: (objects n); is-good: (is c o); true-good: (true p o ..)
---   did-good: (did action variant object ..): its next state can be lent, count and total are at most 10^18; did-read: what an accepted one has passed (document 02, L10)
+--   did-good: (did action variant object ..): its next state can be lent, count and total are at most 10^18; did_read: what an accepted one has passed (document 02, L10)
 --   start-good: (start); called-good: (backup), (cut) and (reduce)
 --   call-good: a backup, a cut or a reduction leaves a good value diagram
---   line-keeps, lines-keep: in the run, names and model stay; the state in hand, value diagram and k where no line changes them
+--   line-keeps, lines_keep: in the run, names and model stay; the state in hand, value diagram and k where no line changes them
 --   reply-counted: every line keeps `rows` the sum of the rows of all model listings
 --   best-bound: a move answered has an object of the state for each parameter of its action; entries-few, entries-words: of the entries counted
 --   text-sound: so behind any lines a session is good, its facts are whole rows and `rows` is that sum

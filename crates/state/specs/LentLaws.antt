@@ -29,7 +29,7 @@ all-at n [] j l e = absurd (omega arith)
 all-at n (o ∷ os) zero l e = and_left (ltb o n) _ e
 all-at n (o ∷ os) (suc j) l e = all-at n os j (omega arith) (and_right (ltb o n) _ e)
 
--- `someBelow`, made and taken apart
+-- `some_below`, made and taken apart
 pub some-made : (n : ℕ) (q : ℕ → Bool) (i : ℕ) → i < n → q i ≡ true → some_below n q ≡ true
 some-made zero q i h e = absurd (omega arith)
 some-made (suc n) q i h e = go (cmp i n) (some-made n q i)

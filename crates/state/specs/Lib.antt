@@ -17,7 +17,7 @@
 --   max_to, max_tuples == the highest over the numbers below n; over all tuples of c objects
 --   gather, those == lists one behind the other; the members that pass a test
 --   Tuple, tuples == c objects below n; all of them, lowest objects first, the first changing slowest
---   maxOf, sumOf == the highest over a list; the sum
+--   max_of, sum_of == the highest over a list; the sum
 --   insert, vars_of, vars_in, vars == the used variables, ascending
 --   put, start, max_vals == θ with another object for v; object 0 for each variable; the highest over all choices for a list of variables
 --   highest == the highest leaf, computed
@@ -28,8 +28,8 @@
 --   fact_row == the row of a fact, 0 in unused places
 --   most_objects, most_facts == at most 64 objects, and 1,024 facts
 --   says_fact, some_below, said_by == row i says that p holds of objects; some row does
---   stateOf == the state that lent words are
---   allBelow, names_below, constants_below, is_state == there is an object, and no object that the lent words name is n or beyond
+--   state_of == the state that lent words are
+--   all_below, names_below, constants_below, is_state == there is an object, and no object that the lent words name is n or beyond
 --   most_valuations, parameters, valuations == 1,000,000; the parameters of a diagram; n to the number of its variables
 --   Valued == the value, or the refusal
 --

@@ -1,4 +1,4 @@
--- Laws of `addAll`: it only adds, and the rows of a diagram added one by one are the diagram put onto the rows.
+-- Laws of `add_all`: it only adds, and the rows of a diagram added one by one are the diagram put onto the rows.
 use Rattle.std.specs.Prelude.{◌≡◌, refl, true, List, [], ◌∷◌, ◌++◌, map, ℕ}
 use Rattle.std.proofs.Common.{ap, sym, ◌∙◌}
 use Rattle.basics.specs.Tests.{Flag, is_true, is_false, flag, Either, one, other, either}
@@ -15,7 +15,7 @@ use Rattle.apply.specs.FormedLaws.{add-old, add-new, add-mem, add-begins, add-le
 use Rattle.apply.specs.RowLaws.{onto-closed, rows-onto}
 use Rattle.store.specs.Space.{add_all}
 
--- the laws of `addAll`: nothing else unfolds it
+-- the laws of `add_all`: nothing else unfolds it
 pub add-all-none : (rs : List Diagram) → add_all rs [] ≡ rs
 unfolding add_all
 add-all-none rs = refl

@@ -3,9 +3,9 @@
 -- Definitions: trees
 --   Kind, Shape == the kind of a line: a key word, or that the bytes are not the grammar; the shape of what stands behind it
 --   most_line_bytes, most_open_brackets == 4,095 bytes, 64 brackets
---   formOf, kinds, keyword, shapeOf == each kind's key word in bytes and its shape
+--   form_of, kinds, keyword, shape_of == each kind's key word in bytes and its shape
 --   is_never, is_bad == no line
---   Item, item_bytes, GoodItem, variable_bytes, parameter_bytes, wordBytes == a word of a sort, how it is written, being well formed
+--   Item, item_bytes, GoodItem, variable_bytes, parameter_bytes, word_bytes == a word of a sort, how it is written, being well formed
 --   ShapeWords, shape_bytes, GoodShape, shape_brackets == what stands in a shape: names, numbers and diagrams; how it is written; names
 --     are names, numbers numbers; how many brackets are open together
 --   Words, words_bytes, GoodWords, open_brackets == the same by the kind of line
@@ -14,7 +14,7 @@
 --   IsLine == k is the answer for the bytes: the kind of the line that is written so, or Bad where there is none
 --
 -- Definitions: the reader
---   isKey, kind_in, kindOf == the kind that a key word begins, by its key
+--   is_key, kind_in, kind_of == the kind that a key word begins, by its key
 --   end_form, one_form, two_form, listed_form, paired_form, drawn_form, named_form, headed_form, shape_form == what stands behind a key word, by
 --     its shape
 --   words_form == by its kind

@@ -15,7 +15,7 @@
 -- Definitions: one line
 --   Stands == what (value) needs
 --   has_action, action_parameters, has_variant, NamesPass == names and counts, and that they pass
---   weight_of, nextOf, facts_of_next == the variant's weight in the state; the next state, and how many facts it has
+--   weight_of, next_of, facts_of_next == the variant's weight in the state; the next state, and how many facts it has
 --   NoneUndeclared == no fact of a predicate that is not declared is true in a state
 --   TooLargeIn, RewardTooLarge == 15 of the reward in a state; before the move of the first line, or after the move
 --   rewards_met == the reward before and after the move of the first line, after the move of each later one
@@ -31,9 +31,9 @@
 -- Definitions: diagrams
 --   VariantDrawn, ActionDrawn, DrawsWeight, DrawsTruth == an accepted (variant ..) line with its weight as drawn and the truth diagrams of its accepted (becomes ..) lines; an accepted
 --       (action ..) line with these; what a line draws, as it is read in the session before it
---   Drawings, DrawingsOf, linesOf == those among lines, in order; those of a text; their names alone
+--   Drawings, DrawingsOf, lines_of == those among lines, in order; those of a text; their names alone
 --   OneEach, DrawnOnce == no two truth diagrams of a variant are of one predicate
---   orElse, if_so, drawn_for, variant_from, action_from, DrawnBy == the variants and actions that they give; the model behind lines has these, under these names
+--   or_else, if_so, drawn_for, variant_from, action_from, DrawnBy == the variants and actions that they give; the model behind lines has these, under these names
 --   no_drawing, none_drawn, drawn_at, DidDrawn == what is drawn for a variant of an action; the variant that a (did ..) line names has the diagrams that the lines of its names draw
 --
 -- Theorems: every list of lines
@@ -53,7 +53,7 @@
 --   did-only: no bytes but those of a (did ..) line are of its kind
 --
 -- Theorems: its names
---   text-declares, text-declared: every text has such declarations, and they are DeclaredBy; none-before: no variant stands before the first action
+--   text-declares, text-declared: every text has such declarations, and they are DeclaredBy; none_before: no variant stands before the first action
 --   text-did-names, accepted-names: where names and counts pass, so for every accepted line: NamesDid
 --   unknown-action, unknown-variant: where they do not pass by 2, the text has no such name
 --   text-draws, text-drawn: every text has such drawings, and they are DrawnBy; text-did-drawn, accepted-drawn: where names and counts pass, so for every accepted line: DidDrawn

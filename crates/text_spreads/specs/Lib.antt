@@ -3,8 +3,8 @@
 -- Definitions: states
 --   count_line == this line in bytes
 --   ground_in == how many ground facts there are with n objects
---   choiceOf, with_choice == the state of a choice, the constants placed as they are now; the session with it in hand
---   valueAt == the value in it
+--   choice_of, with_choice == the state of a choice, the constants placed as they are now; the session with it in hand
+--   value_at == the value in it
 --   ground_here == a ground fact of a declared predicate
 --   AllStates == the states have n objects, the constants placed as they are now, and are the choices of true or false for these facts, each once
 --

@@ -23,7 +23,7 @@
 --   Accepts, behind_line, OnlyOnes == a line is accepted; the session behind it; the three for a session
 --
 -- Theorems
---   combine-only: where a combination is answered, the result buffer begins with the only listing that means it, done with the names of apply `doneAs`
+--   combine-only: where a combination is answered, the result buffer begins with the only listing that means it, done with the names of apply `done_as`
 --   regress-only: so for a regression; regressed-only: so for diagrams
 --   valuation-next: the next choice of a valuation in a state is the choice that it makes in the next state
 --   free-only: so for freeing

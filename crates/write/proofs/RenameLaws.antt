@@ -32,7 +32,7 @@ use Rattle.store.specs.Load.{renamed_of}
 use Rattle.store.proofs.LoadLaws.{renamed-below}
 use Rattle.write.specs.Renaming.{listed_in, word_after, Word, Renamable}
 
--- the laws of `wordAfter`
+-- the laws of `word_after`
 word-mark : (ar ts : List ℕ) (x : ℕ) → x ≡ leaf_mark → word_after ar ts x ≡ leaf_mark
 unfolding word_after
 word-mark ar ts x e = rw (eq-eqb x leaf_mark e)

@@ -18,7 +18,7 @@ use Rattle.diagram.specs.Sizes.{space_rows}
 use Rattle.diagram.specs.Words.{label_at, high_at, low_at}
 use Rattle.write.specs.Writing.{renumbered, listed_rows, Renumberable, Emittable}
 
--- the laws of `renumbered` and `listedRows`
+-- the laws of `renumbered` and `listed_rows`
 pub renumbered-leaf : (s marks : List ℕ) (k : ℕ) → label_at s k ≡ leaf_mark → renumbered s marks k ≡ record { label = leaf_mark; high = high_at s k; low = 0 }
 unfolding renumbered
 renumbered-leaf s marks k e = rw (eq-eqb (label_at s k) leaf_mark e)
