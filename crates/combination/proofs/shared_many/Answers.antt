@@ -1,13 +1,5 @@
-use Rattle.combination.proofs.SharedLaws.{shared-pairable, shared-holds, shared-in}
-use lib.Dec.{lit≤}
+use Rattle.combination.proofs.SharedLaws.{shared-in}
 use Rattle.combination.proofs.shared_many.Goals as goal
-
-pub join_listings-requires : goal.join_listings-requires
-join_listings-requires c =
-    (
-      shared-pairable _ 20480 4096 4096 c.requires.first c.requires.second (lit≤ tt) (lit≤ tt) (lit≤ tt),
-      shared-holds _ 2048 2048 c.requires.room (lit≤ tt) (lit≤ tt),
-    )
 
 pub returns : goal.returns
 returns c =

@@ -22,6 +22,22 @@ pub free_checked-requires : goal.free_checked-requires
 free_checked-requires c =
     search (rules, free-none, free-short, free-narrow, free-many, free-task, free-done)
 
-pub returns-clause-value : goal.returns-clause-value
-returns-clause-value c =
-    search (rules, free-none, free-short, free-narrow, free-many, free-task, free-done)
+pub returns-then-not-check-clause-out_after : goal.returns-then-not-check-clause-out_after
+returns-then-not-check-clause-out_after c =
+    (free-none _ _ _ _ _ c.check.ensures c.if-not-check.true).1
+
+pub returns-then-out-lt-RESULT_WORDS-clause-out_after : goal.returns-then-out-lt-RESULT_WORDS-clause-out_after
+returns-then-out-lt-RESULT_WORDS-clause-out_after c =
+    (free-short _ _ _ _ _ c.check.ensures c.if-not-check.false c.if-out-lt-RESULT_WORDS.true).1
+
+pub returns-then-work-lt-SPACE_WORDS-clause-out_after : goal.returns-then-work-lt-SPACE_WORDS-clause-out_after
+returns-then-work-lt-SPACE_WORDS-clause-out_after c =
+    (free-narrow _ _ _ _ _ c.check.ensures c.if-not-check.false c.if-work-lt-SPACE_WORDS.true).1
+
+pub returns-then-count-gt-PARAMETERS-clause-out_after : goal.returns-then-count-gt-PARAMETERS-clause-out_after
+returns-then-count-gt-PARAMETERS-clause-out_after c =
+    (free-many _ _ _ _ _ c.check.ensures c.if-not-check.false c.if-out-lt-RESULT_WORDS.false c.if-work-lt-SPACE_WORDS.false c.if-count-gt-PARAMETERS.true).1
+
+pub returns-clause-out_after : goal.returns-clause-out_after
+returns-clause-out_after c =
+    (free-done _ _ _ _ _ c.check.ensures c.if-not-check.false c.if-out-lt-RESULT_WORDS.false c.if-work-lt-SPACE_WORDS.false c.if-count-gt-PARAMETERS.false c.free_checked.ensures).1

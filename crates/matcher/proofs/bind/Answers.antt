@@ -1,4 +1,5 @@
-use Rattle.matcher.proofs.BindLaws.{binding-start, binding-fails, binding-next}
+use borrow.Author.Rules.{rules}
+use Rattle.matcher.proofs.BindLaws.{binding-start, binding-fails, binding-next, binding-end}
 use Rattle.matcher.proofs.bind.Goals as goal
 
 pub loop-k-init : goal.loop-k-init
@@ -7,8 +8,8 @@ loop-k-init c =
 
 pub returns-then-not-place : goal.returns-then-not-place
 returns-then-not-place c =
-    binding-fails c.requires.slots c.requires.first_minimum_in_bounds c.loop-k.invariant c.loop-k-test.true c.place.ensures c.way_place-u.ensures c.place.ensures.value c.place.ensures.theta_after c.if-not-place.true
+    search (rules, binding-start, binding-fails, binding-next, binding-end)
 
 pub loop-k-preserved : goal.loop-k-preserved
 loop-k-preserved c =
-    binding-next c.requires.slots c.requires.first_minimum_in_bounds c.loop-k.invariant c.loop-k-test.true c.place.ensures c.way_place-u.ensures c.place.ensures.value c.place.ensures.theta_after c.if-not-place.false
+    search (rules, binding-start, binding-fails, binding-next, binding-end)

@@ -1,3 +1,4 @@
+use borrow.Author.Rules.{rules}
 use Rattle.valuing.proofs.CheckLaws.{naming-start, naming-no, naming-on, naming-all}
 use Rattle.valuing.proofs.facts_fit.Goals as goal
 
@@ -7,11 +8,11 @@ loop-i-init c =
 
 pub returns-then-not-row_fits : goal.returns-then-not-row_fits
 returns-then-not-row_fits c =
-    naming-no _ _ _ _ c.loop-i-test.true c.row_fits.ensures c.if-not-row_fits.true
+    search (rules, naming-start, naming-no, naming-on, naming-all)
 
 pub loop-i-preserved : goal.loop-i-preserved
 loop-i-preserved c =
-    naming-on c.loop-i.invariant c.loop-i-test.true c.row_fits.ensures c.if-not-row_fits.false
+    search (rules, naming-start, naming-no, naming-on, naming-all)
 
 pub returns : goal.returns
 returns c =
