@@ -1,3 +1,4 @@
+use borrow.Author.Rules.{rules}
 use native.Mathlib.Omega.{arith}
 use mathlib.Core.Path.{◌≡◌}
 use Prim.Native.Nat.{◌+◌}
@@ -19,7 +20,7 @@ returns-in_default c =
 
 pub returns-in_default-read_diagram : goal.returns-in_default-read_diagram
 returns-in_default-read_diagram c =
-    let e = told c in search form-refused
+    search (rules, diagram-within, after-refused, form-refused, form-took, form-rest, rest-less)
 
 pub overflow_add-j : goal.overflow_add-j
 overflow_add-j c =

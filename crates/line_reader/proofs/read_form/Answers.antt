@@ -1,3 +1,4 @@
+use borrow.Author.Rules.{rules}
 use native.Mathlib.Omega.{arith}
 use mathlib.Core.Path.{sym, ◌∙◌}
 use Prim.Native.Nat.{◌≤◌}
@@ -29,15 +30,15 @@ key_of-requires c =
 
 pub overflow_sub-left : goal.overflow_sub-left
 overflow_sub-left c =
-    (room c).0
+    search (rules, name-within, name-inv, form-none, form-refused, form-whole, form-rest)
 
 pub slice_bounds-read_shape-count : goal.slice_bounds-read_shape-count
 slice_bounds-read_shape-count c =
-    (room c).0
+    search (rules, name-within, name-inv, form-none, form-refused, form-whole, form-rest)
 
 pub slice_bounds-read_shape-start : goal.slice_bounds-read_shape-start
 slice_bounds-read_shape-start c =
-    omega (arith, room c)
+    search (rules, name-within, name-inv, form-none, form-refused, form-whole, form-rest)
 
 pub returns-in_default-read_shape : goal.returns-in_default-read_shape
 returns-in_default-read_shape c =

@@ -3,22 +3,12 @@ use mathlib.Core.Path.{sym, ◌∙◌}
 use Prim.Native.Nat.{◌≤◌}
 use lib.ListN.{length}
 use Rattle.words.specs.ByteLaws.{inside}
-use Rattle.text.specs.LineUnique.{line-answer}
-use Rattle.line_reader.proofs.LineCode.{line-long, line-none, line-form}
 use Rattle.line_reader.proofs.read_line.Goals as goal
 
 -- `line_reader::read_line` meets its contract. Assumes nothing.
 -- the bracket is there
 room : (c : goal.Else-byte_at-ne40) → 1 ≤ length c.args.s.now
 room c = inside c.args.s.now 0 40 (sym c.byte_at.ensures ∙ c.if-byte_at-ne40.false) (omega arith)
-
-pub returns-then-s-gt-LINE_BYTES : goal.returns-then-s-gt-LINE_BYTES
-returns-then-s-gt-LINE_BYTES c =
-    line-answer _ _ (line-long _ c.if-s-gt-LINE_BYTES.true)
-
-pub returns-then-byte_at-ne40 : goal.returns-then-byte_at-ne40
-returns-then-byte_at-ne40 c =
-    line-answer _ _ (search line-none)
 
 pub slice_bounds-read_form-count : goal.slice_bounds-read_form-count
 slice_bounds-read_form-count c =
@@ -27,7 +17,3 @@ slice_bounds-read_form-count c =
 pub slice_bounds-read_form-start : goal.slice_bounds-read_form-start
 slice_bounds-read_form-start c =
     omega (arith, room c)
-
-pub returns : goal.returns
-returns c =
-    line-answer _ _ (search line-form)

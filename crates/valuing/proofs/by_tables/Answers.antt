@@ -47,14 +47,6 @@ pub bounds-heads-root : goal.bounds-heads-root
 bounds-heads-root c =
     omega (arith, few-rows _ _ c.requires.words_value, listing-some _ _ c.requires.words_value)
 
-pub offset_bounds-space-at : goal.offset_bounds-space-at
-offset_bounds-space-at c =
-    search (rules, few-rows, above-none, tables-minimum, tables-ready, tables-over, root-start, tables-value, listing-some)
-
-pub bounds-space-at : goal.bounds-space-at
-bounds-space-at c =
-    search (rules, few-rows, above-none, tables-minimum, tables-ready, tables-over, root-start, tables-value, listing-some)
-
 pub returns : goal.returns
 returns c =
     search (rules, few-rows, above-none, tables-minimum, tables-ready, tables-over, root-start, tables-value, listing-some)
