@@ -7,10 +7,11 @@ use lib.Seq.{length-take-le}
 use Rattle.words.specs.WordLaws.{name-within, name-inv}
 use Rattle.line_reader.proofs.LineCode.{form-none, form-refused, form-whole, form-rest}
 use Rattle.line_reader.proofs.read_form.Goals as goal
+use Rattle.line_reader.proofs.read_form.Goals.{In-Bytes}
 
 -- `line_reader::read_form` meets its contract. Assumes nothing.
 -- the key word lies within the bytes, and has at most 15
-room : (c : goal.In-Bytes)
+room : (c : In-Bytes)
     → (c.in-Bytes.n ≤ length c.args.s.now) × (c.in-Bytes.n ≤ 15)
 room c =
     let e = sym c.read_name.ensures ∙ c.in-Bytes.is in

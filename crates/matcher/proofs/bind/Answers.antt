@@ -1,5 +1,5 @@
 use borrow.Author.Rules.{rules}
-use Rattle.matcher.proofs.BindLaws.{binding-start, binding-fails, binding-next, binding-end}
+use Rattle.matcher.proofs.BindLaws.{binding-start, binding-fails, binding-next}
 use Rattle.matcher.proofs.bind.Goals as goal
 
 pub loop-k-init : goal.loop-k-init
@@ -8,8 +8,8 @@ loop-k-init c =
 
 pub returns-then-not-place : goal.returns-then-not-place
 returns-then-not-place c =
-    search (rules, binding-start, binding-fails, binding-next, binding-end)
+    search (rules, binding-fails)
 
 pub loop-k-preserved : goal.loop-k-preserved
 loop-k-preserved c =
-    search (rules, binding-start, binding-fails, binding-next, binding-end)
+    search (rules, binding-next)

@@ -1,5 +1,5 @@
 use native.Mathlib.Omega.{arith}
-use Rattle.matcher.proofs.FindLaws.{image-small, met-other, met-truth, met-equal, equates-small}
+use Rattle.matcher.proofs.FindLaws.{image-small, met-other, met-equal, equates-small}
 use borrow.Author.Rules.{rules}
 use Rattle.matcher.proofs.is_met.Goals as goal
 
@@ -13,4 +13,4 @@ overflow_add-l c =
 
 pub returns : goal.returns
 returns c =
-    search (rules, image-small, met-other, met-truth, met-equal, equates-small)
+    search (rules, met-other, met-equal)

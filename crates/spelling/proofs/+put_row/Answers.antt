@@ -10,10 +10,6 @@ pub bounds-out-end : goal.bounds-out-end
 bounds-out-end t c =
     leaf-below c.args.out.now c.args.at c.args.behind c.requires.spelt c.requires.i_bound c.requires.behind_in_bounds c.if-label.true c.put_number-end.ensures c.put_number-end.auto.out
 
-pub overflow_add-result : goal.overflow_add-result
-overflow_add-result t c =
-    omega (arith, put-row-slice-write-out t c, c.well_formed, c.put_number-end.auto.out)
-
 pub returns-then-label : goal.returns-then-label
 returns-then-label t c =
     leaf-wrote c.args.out.now c.args.at c.args.behind c.requires.spelt c.requires.i_bound c.requires.behind_in_bounds c.if-label.true c.put_number-end.ensures c.put_number-end.auto.out
@@ -47,17 +43,6 @@ put_row-end-requires t c =
 pub bounds-out-end-2 : goal.bounds-out-end-2
 bounds-out-end-2 t c =
     end_below c.args.out.now c.args.at c.args.behind c.requires.spelt c.requires.i_bound c.requires.behind_in_bounds c.if-label.false c.put_test-first.ensures c.put_test-first.auto.out c.put_row-second.ensures c.put_row-second.auto.out c.put_row-end.ensures c.put_row-end.auto.out
-
-pub overflow_add-result-2 : goal.overflow_add-result-2
-overflow_add-result-2 t c =
-    omega (
-      arith,
-      put-row-slice-write-out-2 t c,
-      c.well_formed,
-      c.put_test-first.auto.out,
-      c.put_row-second.auto.out,
-      c.put_row-end.auto.out,
-    )
 
 pub returns : goal.returns
 returns t c =

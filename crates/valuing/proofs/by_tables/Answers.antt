@@ -1,10 +1,13 @@
 use native.Mathlib.Omega.{arith}
+use mathlib.Core.Path.{refl}
 use Prim.Native.Nat.{ℕ}
 use lib.ListN.{length-replicate}
-use borrow.Author.Rules.{rules}
 use Rattle.label.specs.Limits.{term_end}
+use Rattle.diagram.specs.Sizes.{most_rows}
+use Rattle.elimination.specs.Elimination.{most_entries}
 use Rattle.valuing.proofs.TablesLaws.{few-rows, above-none, tables-minimum, tables-ready, tables-over, root-start, tables-value}
 use Rattle.valuing.proofs.StartLaws.{listing-some}
+use Rattle.std.proofs.lemmas.Bool.{not_from_true}
 use Rattle.valuing.proofs.by_tables.Goals as goal
 
 pub returns-then-not-plain : goal.returns-then-not-plain
@@ -13,7 +16,7 @@ returns-then-not-plain c =
 
 pub find_above-requires : goal.find_above-requires
 find_above-requires c =
-    search (rules, few-rows, above-none, tables-minimum, tables-ready, tables-over, root-start, tables-value, listing-some)
+    above-none _ _ most_rows c.requires.words_value c.requires.plain_value (not_from_true _ c.if-not-plain.false) (omega arith)
 
 pub start-requires : goal.start-requires
 start-requires c =
@@ -21,11 +24,11 @@ start-requires c =
 
 pub work-requires : goal.work-requires
 work-requires c =
-    search (rules, few-rows, above-none, tables-minimum, tables-ready, tables-over, root-start, tables-value, listing-some)
+    tables-ready _ _ _ _ _ _ c.requires.words_value c.requires.facts_value c.requires.objects_value c.requires.plain_value (not_from_true _ c.if-not-plain.false) c.start.ensures c.find_above.ensures
 
 pub returns-in_default : goal.returns-in_default
 returns-in_default c =
-    search (rules, few-rows, above-none, tables-minimum, tables-ready, tables-over, root-start, tables-value, listing-some)
+    tables-over _ _ _ _ _ _ c.requires.words_value c.requires.facts_value c.requires.objects_value c.requires.plain_value (not_from_true _ c.if-not-plain.false) c.start.ensures c.work.ensures c.in_default.is
 
 pub overflow_sub-root : goal.overflow_sub-root
 overflow_sub-root c =
@@ -47,6 +50,16 @@ pub bounds-heads-root : goal.bounds-heads-root
 bounds-heads-root c =
     omega (arith, few-rows _ _ c.requires.words_value, listing-some _ _ c.requires.words_value)
 
+pub offset_bounds-space-at : goal.offset_bounds-space-at
+offset_bounds-space-at c =
+    let first = root-start _ _ _ _ _ _ c.requires.words_value c.requires.facts_value c.requires.objects_value c.requires.plain_value (not_from_true _ c.if-not-plain.false) c.start.ensures c.work.ensures c.in-At.is in
+    omega (arith, first, c.work.auto.space, length-replicate {A = ℕ} most_entries 0)
+
+pub bounds-space-at : goal.bounds-space-at
+bounds-space-at c =
+    let first = root-start _ _ _ _ _ _ c.requires.words_value c.requires.facts_value c.requires.objects_value c.requires.plain_value (not_from_true _ c.if-not-plain.false) c.start.ensures c.work.ensures c.in-At.is in
+    omega (arith, first, c.work.auto.space, length-replicate {A = ℕ} most_entries 0)
+
 pub returns : goal.returns
 returns c =
-    search (rules, few-rows, above-none, tables-minimum, tables-ready, tables-over, root-start, tables-value, listing-some)
+    tables-value _ _ _ _ _ _ c.requires.words_value c.requires.facts_value c.requires.objects_value c.requires.plain_value (not_from_true _ c.if-not-plain.false) c.start.ensures c.work.ensures c.in-At.is refl
