@@ -1,6 +1,21 @@
-use Rattle.combination.proofs.SharedLaws.{shared-in}
+use Rattle.combination.proofs.SharedLaws.{shared-pairable, shared-holds, shared-in}
+use lib.Dec.{lit≤}
 use Rattle.combination.proofs.shared_many.Goals as goal
 
 pub returns : goal.returns
 returns c =
     shared-in _ _ _ _ _ _ c.requires c.join_listings.ensures
+
+pub join_listings-requires-clause-pairable : goal.join_listings-requires-clause-pairable
+join_listings-requires-clause-pairable c =
+    ((
+      shared-pairable _ 20480 4096 4096 c.requires.first c.requires.second (lit≤ tt) (lit≤ tt) (lit≤ tt),
+      shared-holds _ 2048 2048 c.requires.room (lit≤ tt) (lit≤ tt),
+    )).0
+
+pub join_listings-requires-clause-holds : goal.join_listings-requires-clause-holds
+join_listings-requires-clause-holds c =
+    ((
+      shared-pairable _ 20480 4096 4096 c.requires.first c.requires.second (lit≤ tt) (lit≤ tt) (lit≤ tt),
+      shared-holds _ 2048 2048 c.requires.room (lit≤ tt) (lit≤ tt),
+    )).1

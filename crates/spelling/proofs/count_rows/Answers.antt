@@ -50,14 +50,13 @@ bounds-brackets-i c =
     omega (arith, c.loop-i.invariant.4.room, c.loop-i-test.true)
 
 pub loop-i-preserved : goal.loop-i-preserved
-loop-i-preserved c =
-    (
-      omega (arith, c.loop-i-test.true),
-      length-set c.loop-i.bytes c.loop-i.i c.row_bytes-b.result ∙ c.loop-i.invariant.1,
-      length-set c.loop-i.brackets c.loop-i.i c.row_open-o.result ∙ c.loop-i.invariant.2,
-      bytes-more c.loop-i.invariant.3 c.loop-i-test.true c.row_bytes-b.ensures,
-      brackets-more c.loop-i.invariant.4 c.loop-i-test.true c.row_open-o.ensures,
-    )
+loop-i-preserved c = (
+  omega (arith, c.loop-i-test.true),
+  length-set c.loop-i.bytes c.loop-i.i c.row_bytes-b.result ∙ c.loop-i.invariant.1,
+  length-set c.loop-i.brackets c.loop-i.i c.row_open-o.result ∙ c.loop-i.invariant.2,
+  bytes-more c.loop-i.invariant.3 c.loop-i-test.true c.row_bytes-b.ensures,
+  brackets-more c.loop-i.invariant.4 c.loop-i-test.true c.row_open-o.ensures,
+)
 
 pub returns-clause-byte_counts : goal.returns-clause-byte_counts
 returns-clause-byte_counts c =
