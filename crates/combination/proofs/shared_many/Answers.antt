@@ -6,16 +6,8 @@ pub returns : goal.returns
 returns c =
     shared-in _ _ _ _ _ _ c.requires c.join_listings.ensures
 
-pub join_listings-requires-clause-pairable : goal.join_listings-requires-clause-pairable
-join_listings-requires-clause-pairable c =
-    ((
-      shared-pairable _ 20480 4096 4096 c.requires.first c.requires.second (lit≤ tt) (lit≤ tt) (lit≤ tt),
-      shared-holds _ 2048 2048 c.requires.room (lit≤ tt) (lit≤ tt),
-    )).0
-
-pub join_listings-requires-clause-holds : goal.join_listings-requires-clause-holds
-join_listings-requires-clause-holds c =
-    ((
-      shared-pairable _ 20480 4096 4096 c.requires.first c.requires.second (lit≤ tt) (lit≤ tt) (lit≤ tt),
-      shared-holds _ 2048 2048 c.requires.room (lit≤ tt) (lit≤ tt),
-    )).1
+pub join_listings-requires : goal.join_listings-requires
+join_listings-requires c = record {
+  pairable = shared-pairable _ 20480 4096 4096 c.requires.first c.requires.second (lit≤ tt) (lit≤ tt) (lit≤ tt);
+  holds = shared-holds _ 2048 2048 c.requires.room (lit≤ tt) (lit≤ tt);
+}

@@ -1,4 +1,5 @@
 use Rattle.reader.proofs.TermCode.{word-variable, word-minimum, word-other}
+use borrow.Author.Rules.{rules}
 use Rattle.reader.proofs.meet_word.Goals as goal
 
 pub returns-in-Variable : goal.returns-in-Variable
@@ -11,4 +12,4 @@ returns-in-Minimum c =
 
 pub returns-in_default : goal.returns-in_default
 returns-in_default c =
-    word-other c.args.binding _ _ c.requires c.args.event c.in_default.keys3
+    search (rules, word-variable, word-minimum, word-other)

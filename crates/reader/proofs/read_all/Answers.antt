@@ -1,4 +1,4 @@
-use Rattle.reader.proofs.WordCode.{loop-start, loop-end, loop-room, loop-refused, loop-shrinks, loop-more, loop-over}
+use Rattle.reader.proofs.WordCode.{loop-start, loop-end, loop-room, loop-shrinks, loop-more, loop-over}
 use Rattle.reader.proofs.read_all.Goals as goal
 
 pub loop-place-init : goal.loop-place-init
@@ -28,11 +28,6 @@ read_word-stepped-requires-clause-variables c =
 pub read_word-stepped-requires-clause-room : goal.read_word-stepped-requires-clause-room
 read_word-stepped-requires-clause-room c =
     
-
-pub returns-in_default : goal.returns-in_default
-returns-in_default c =
-    loop-refused c.loop-place.invariant c.next_event-next.ensures c.is_end.ensures c.if-is_end.false
-    c.meet_word-known.ensures c.read_word-stepped.ensures c.in_default.is c.refused.ensures
 
 pub loop-place-smaller : goal.loop-place-smaller
 loop-place-smaller c =

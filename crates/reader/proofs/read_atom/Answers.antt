@@ -27,4 +27,4 @@ begin-requires-clause-due_le_most_places c =
 
 pub returns : goal.returns
 returns c =
-    search atom-goes
+    search (rules, atom-name, atom-room, atom-arity, atom-places, atom-goes)

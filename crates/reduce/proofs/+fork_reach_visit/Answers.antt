@@ -80,45 +80,32 @@ pub reach-returns-then-left-eq0 : goal.reach-returns-then-left-eq0
 reach-returns-then-left-eq0 t c =
     reach-last c.requires.searching c.requires.k_lt_m c.requires.count_bound c.if-formed-eq-FORMED.false c.better-b.ensures c.if-left-eq0.true
 
-pub reach-visit-requires-clause-searching : goal.reach-visit-requires-clause-searching
-reach-visit-requires-clause-searching t c =
-    omega (arith, c.decreases, c.if-left-eq0.false, c.requires.searching.routed.rows.few)
-
-pub reach-visit-requires-clause-k_lt_m : goal.reach-visit-requires-clause-k_lt_m
-reach-visit-requires-clause-k_lt_m t c =
+pub reach-visit-requires : goal.reach-visit-requires
+reach-visit-requires t c =
     (
+      omega (arith, c.decreases, c.if-left-eq0.false, c.requires.searching.routed.rows.few),
+      (
         reach-searching c.requires.searching c.requires.k_lt_m c.requires.count_bound c.if-formed-eq-FORMED.false c.better-b.ensures c.if-left-eq0.false,
         reach-standing c.requires.searching c.requires.k_lt_m
             c.requires.count_bound c.if-formed-eq-FORMED.false c.better-b.ensures c.if-left-eq0.false,
-      )
-
-pub reach-visit-requires-clause-count_bound : goal.reach-visit-requires-clause-count_bound
-reach-visit-requires-clause-count_bound t c =
-    
+      ),
+    )
 
 pub reach-returns : goal.reach-returns
 reach-returns t c =
     reach-on c.requires.searching c.requires.k_lt_m c.requires.count_bound c.if-formed-eq-FORMED.false c.better-b.ensures c.if-left-eq0.false c.visit.ensures
 
-pub visit-reach-requires-clause-searching : goal.visit-reach-requires-clause-searching
-visit-reach-requires-clause-searching t c =
-    omega (arith, c.decreases)
-
-pub visit-reach-requires-clause-standing : goal.visit-reach-requires-clause-standing
-visit-reach-requires-clause-standing t c =
-    (c.requires.searching, (visit-path c.requires.searching c.requires.standing c.if-words-r.true, visit-count c.requires.searching c.requires.standing))
+pub visit-reach-requires : goal.visit-reach-requires
+visit-reach-requires t c =
+    (omega (arith, c.decreases), (c.requires.searching, (visit-path c.requires.searching c.requires.standing c.if-words-r.true, visit-count c.requires.searching c.requires.standing)))
 
 pub visit-returns-then-words-r : goal.visit-returns-then-words-r
 visit-returns-then-words-r t c =
     visit-leaf c.requires.searching c.requires.standing c.if-words-r.true c.reach.ensures
 
-pub visit-visit-requires-clause-searching : goal.visit-visit-requires-clause-searching
-visit-visit-requires-clause-searching t c =
-    omega (arith, c.decreases, row-high c.requires.searching c.requires.standing c.if-words-r.false)
-
-pub visit-visit-requires-clause-standing : goal.visit-visit-requires-clause-standing
-visit-visit-requires-clause-standing t c =
-    (c.requires.searching, standing-high c.requires.searching c.requires.standing c.if-words-r.false)
+pub visit-visit-requires : goal.visit-visit-requires
+visit-visit-requires t c =
+    (omega (arith, c.decreases, row-high c.requires.searching c.requires.standing c.if-words-r.false), (c.requires.searching, standing-high c.requires.searching c.requires.standing c.if-words-r.false))
 
 pub visit-returns-then-s-eq1 : goal.visit-returns-then-s-eq1
 visit-returns-then-s-eq1 t c =
@@ -136,25 +123,17 @@ pub visit-overflow_add-behind : goal.visit-overflow_add-behind
 visit-overflow_add-behind t c =
     omega (arith, high_small c.requires.searching c.requires.standing c.if-words-r.false)
 
-pub visit-visit-requires-then-s-eq0-clause-searching : goal.visit-visit-requires-then-s-eq0-clause-searching
-visit-visit-requires-then-s-eq0-clause-searching t c =
-    omega (arith, c.decreases, row_low c.requires.searching c.requires.standing c.if-words-r.false)
-
-pub visit-visit-requires-then-s-eq0-clause-standing : goal.visit-visit-requires-then-s-eq0-clause-standing
-visit-visit-requires-then-s-eq0-clause-standing t c =
-    (c.requires.searching, standing-low c.requires.searching c.requires.standing c.if-words-r.false)
+pub visit-visit-requires-then-s-eq0 : goal.visit-visit-requires-then-s-eq0
+visit-visit-requires-then-s-eq0 t c =
+    (omega (arith, c.decreases, row_low c.requires.searching c.requires.standing c.if-words-r.false), (c.requires.searching, standing-low c.requires.searching c.requires.standing c.if-words-r.false))
 
 pub visit-returns-then-s-eq0 : goal.visit-returns-then-s-eq0
 visit-returns-then-s-eq0 t c =
     visit-false c.requires.searching c.requires.standing c.if-words-r.false c.sign_of-s.ensures c.if-s-eq0.true c.visit-then-s-eq0.ensures
 
-pub visit-fork-requires-clause-searching : goal.visit-fork-requires-clause-searching
-visit-fork-requires-clause-searching t c =
-    omega (arith, c.decreases)
-
-pub visit-fork-requires-clause-standing : goal.visit-fork-requires-clause-standing
-visit-fork-requires-clause-standing t c =
-    (c.requires.searching, (c.requires.standing, label-raw _ _ c.if-words-r.false))
+pub visit-fork-requires : goal.visit-fork-requires
+visit-fork-requires t c =
+    (omega (arith, c.decreases), (c.requires.searching, (c.requires.standing, label-raw _ _ c.if-words-r.false)))
 
 pub visit-returns : goal.visit-returns
 visit-returns t c =

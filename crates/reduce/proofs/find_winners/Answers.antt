@@ -9,16 +9,15 @@ fill_facts-requires c =
 
 pub overflow_sub-all : goal.overflow_sub-all
 overflow_sub-all c =
-    omega (arith, all-some (c.requires))
-
-pub visit-requires : goal.visit-requires
-visit-requires c =
-    (
-      win-searching (c.requires) c.fill_facts.ensures c.find_leaves.ensures 1024 (lit≤ tt) c.fill_facts.auto.facts,
-      win-standing (c.requires)
-          c.fill_facts.ensures c.find_leaves.ensures,
-    )
+    omega (arith, all-some c.requires)
 
 pub returns : goal.returns
 returns c =
-    win_done (c.requires) c.fill_facts.ensures c.find_leaves.ensures c.visit.ensures
+    win_done c.requires c.fill_facts.ensures c.find_leaves.ensures c.visit.ensures
+
+pub visit-requires-clause-searching : goal.visit-requires-clause-searching
+visit-requires-clause-searching c =
+    win-searching c.requires c.fill_facts.ensures c.find_leaves.ensures 1024 (lit≤ tt) c.fill_facts.auto.facts
+
+pub visit-requires-clause-standing : goal.visit-requires-clause-standing
+visit-requires-clause-standing c = win-standing c.requires c.fill_facts.ensures c.find_leaves.ensures

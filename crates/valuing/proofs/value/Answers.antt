@@ -33,7 +33,10 @@ pub value_by-requires : goal.value_by-requires
 value_by-requires c =
     let listed = fits-listing _ _ c.check.ensures (not_from_true _ c.if-not-check.false) in
     let lent = fits-state _ _ _ _ c.state_fits.ensures (not_from_true _ c.if-not-state_fits.false) in
-    (in-state listed lent c.used.ensures c.is_plain-plain.ensures, few-marks _ _ c.used.ensures _ c.is_small-small.ensures)
+    record {
+      in_state = in-state listed lent c.used.ensures c.is_plain-plain.ensures;
+      few_value = few-marks _ _ c.used.ensures _ c.is_small-small.ensures;
+    }
 
 pub returns : goal.returns
 returns c =

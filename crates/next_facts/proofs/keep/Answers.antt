@@ -1,0 +1,18 @@
+use Rattle.next_facts.proofs.KeepLaws.{keeping_start, keeping-many, keeping-on, keeping-end}
+use Rattle.next_facts.proofs.keep.Goals as goal
+
+pub loop-i-init : goal.loop-i-init
+loop-i-init c =
+    search keeping_start
+
+pub returns-in_default : goal.returns-in_default
+returns-in_default c =
+    search keeping-many
+
+pub loop-i-preserved : goal.loop-i-preserved
+loop-i-preserved c =
+    search keeping-on
+
+pub returns : goal.returns
+returns c =
+    search keeping-end
