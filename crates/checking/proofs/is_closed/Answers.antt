@@ -1,6 +1,5 @@
 use Rattle.checking.proofs.TestLaws.{closed-few, copy-closable, closed-tells}
 use lib.Dec.{lit≤}
-use native.Mathlib.Omega.{arith}
 use borrow.Author.Rules.{rules}
 use Rattle.diagram.specs.Sizes.{result_words}
 use Rattle.checking.proofs.is_closed.Goals as goal
@@ -19,4 +18,4 @@ returns c =
 
 pub copy-requires-clause-count_in_bounds_2 : goal.copy-requires-clause-count_in_bounds_2
 copy-requires-clause-count_in_bounds_2 c =
-    (let p = closed-few _ _ c.requires in (omega arith, search rules)).1
+    search (rules, closed-few, copy-closable, closed-tells)

@@ -1,4 +1,4 @@
-use mathlib.Core.Path.{sym}
+use mathlib.Core.Path.{sym, ◌∙◌}
 use lib.Dec.{lit≤}
 use native.Mathlib.Omega.{arith}
 use borrow.Author.Rules.{rules}
@@ -43,7 +43,7 @@ overflow_sub-result c =
 
 pub returns-then-e-eq1 : goal.returns-then-e-eq1
 returns-then-e-eq1 c =
-    search (rules, known-none, choose-room, choose-start, choose-charted, choose-true, choose-false, choose-on, choose-none)
+    choose-true _ _ _ c.requires.words_value c.requires.n_value c.loop-i.invariant.3 c.loop-i-test.true c.loop-i.invariant.1 c.edge_of-e.ensures c.if-e-eq1.true
 
 pub overflow_sub-result-then-e-eq2 : goal.overflow_sub-result-then-e-eq2
 overflow_sub-result-then-e-eq2 c =
@@ -51,7 +51,7 @@ overflow_sub-result-then-e-eq2 c =
 
 pub returns-then-e-eq2 : goal.returns-then-e-eq2
 returns-then-e-eq2 c =
-    search (rules, known-none, choose-room, choose-start, choose-charted, choose-true, choose-false, choose-on, choose-none)
+    choose-false _ _ _ c.requires.words_value c.requires.n_value c.loop-i.invariant.3 c.loop-i-test.true c.loop-i.invariant.1 c.edge_of-e.ensures c.if-e-eq2.true
 
 pub overflow_sub-i-in-loop-i : goal.overflow_sub-i-in-loop-i
 overflow_sub-i-in-loop-i c =
@@ -62,8 +62,12 @@ loop-i-smaller c =
     omega (arith, c.loop-i-test.true)
 
 pub loop-i-preserved : goal.loop-i-preserved
-loop-i-preserved c =
-    search (rules, known-none, choose-room, choose-start, choose-charted, choose-true, choose-false, choose-on, choose-none)
+loop-i-preserved c = (
+  c.edge_of-e.auto.memo ∙ c.loop-i.invariant.0,
+  omega (arith, c.loop-i.invariant.1),
+  c.edge_of-e.ensures.known,
+  choose-on _ _ _ c.requires.words_value c.requires.n_value c.loop-i.invariant.3 c.loop-i-test.true c.loop-i.invariant.1 c.edge_of-e.ensures c.if-e-eq1.false c.if-e-eq2.false,
+)
 
 pub returns : goal.returns
 returns c =

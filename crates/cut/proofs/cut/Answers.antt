@@ -33,10 +33,10 @@ returns-then-work-lt-SPACE_WORDS-clause-out_after c =
 
 pub returns-clause-value : goal.returns-clause-value
 returns-clause-value c =
-    call-done c.args.arities.now c.args.words.now c.args.out.now c.args.work.now c.check.ensures (not_from_true _ c.if-not-check.false) c.if-out-lt-RESULT_WORDS.false c.if-work-lt-SPACE_WORDS.false
-    c.cut_checked.ensures
+    (call-done c.args.arities.now c.args.words.now c.args.out.now c.args.work.now c.check.ensures (not_from_true _ c.if-not-check.false) c.if-out-lt-RESULT_WORDS.false c.if-work-lt-SPACE_WORDS.false
+    (c.cut_checked.ensures.value, c.cut_checked.ensures.out_after)).0
 
 pub returns-clause-out_after : goal.returns-clause-out_after
 returns-clause-out_after c =
-    call-done c.args.arities.now c.args.words.now c.args.out.now c.args.work.now c.check.ensures (not_from_true _ c.if-not-check.false) c.if-out-lt-RESULT_WORDS.false c.if-work-lt-SPACE_WORDS.false
-    c.cut_checked.ensures
+    (call-done c.args.arities.now c.args.words.now c.args.out.now c.args.work.now c.check.ensures (not_from_true _ c.if-not-check.false) c.if-out-lt-RESULT_WORDS.false c.if-work-lt-SPACE_WORDS.false
+    (c.cut_checked.ensures.value, c.cut_checked.ensures.out_after)).1

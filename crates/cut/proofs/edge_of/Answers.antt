@@ -1,5 +1,5 @@
 use lib.Dec.{lit≤}
-use Rattle.cut.proofs.ChoiceLaws.{edge-leaf, edge-asking, edge-edged, edge-true, edge-false, edge_none}
+use Rattle.cut.proofs.ChoiceLaws.{edge-leaf, edge-edged, edge-true, edge-false, edge_none}
 use Rattle.cut.proofs.edge_of.Goals as goal
 
 pub returns-then-words-r : goal.returns-then-words-r
@@ -18,16 +18,10 @@ pub returns : goal.returns
 returns c =
     edge_none c.may_go.ensures c.if-may_go.false c.may_go-2.ensures c.if-may_go-2.false
 
-pub may_go-requires : goal.may_go-requires
-may_go-requires c =
-    (
-      edge-asking c.requires.charted c.requires.known c.requires.r_lt_n c.find_sides.ensures c.requires.known,
-      edge-edged c.requires.charted c.requires.known c.requires.r_lt_n c.find_sides.ensures 1 (lit≤ tt) (lit≤ tt) c.if-words-r.false,
-    )
+pub may_go-requires-clause-edged : goal.may_go-requires-clause-edged
+may_go-requires-clause-edged c =
+    edge-edged c.requires.charted c.requires.known c.requires.r_lt_n c.find_sides.ensures 1 (lit≤ tt) (lit≤ tt) c.if-words-r.false
 
-pub may_go-requires-2 : goal.may_go-requires-2
-may_go-requires-2 c =
-    (
-      edge-asking c.requires.charted c.requires.known c.requires.r_lt_n c.find_sides.ensures c.may_go.ensures.known,
-      edge-edged c.requires.charted c.requires.known c.requires.r_lt_n c.find_sides.ensures 2 (lit≤ tt) (lit≤ tt) c.if-words-r.false,
-    )
+pub may_go-requires-2-clause-edged : goal.may_go-requires-2-clause-edged
+may_go-requires-2-clause-edged c =
+    edge-edged c.requires.charted c.requires.known c.requires.r_lt_n c.find_sides.ensures 2 (lit≤ tt) (lit≤ tt) c.if-words-r.false

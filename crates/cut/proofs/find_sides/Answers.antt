@@ -38,12 +38,11 @@ overflow_add-p c =
     omega (arith, routed-small c.requires.routed c.loop-p-test.true)
 
 pub loop-p-preserved : goal.loop-p-preserved
-loop-p-preserved c =
-    (
-      search rules,
-      omega (arith, c.loop-p-test.true),
-      sides-more c.loop-p.invariant.2 (omega (arith, c.loop-p-test.true, c.requires.m_in_bounds, c.loop-p.invariant.0)) c.side_of.ensures,
-    )
+loop-p-preserved c = (
+  search rules,
+  omega (arith, c.loop-p-test.true),
+  sides-more c.loop-p.invariant.2 (omega (arith, c.loop-p-test.true, c.requires.m_in_bounds, c.loop-p.invariant.0)) c.side_of.ensures,
+)
 
 pub returns : goal.returns
 returns c =

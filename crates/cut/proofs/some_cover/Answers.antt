@@ -37,14 +37,13 @@ loop-q-smaller c =
     omega (arith, c.loop-q-test.true)
 
 pub loop-q-preserved : goal.loop-q-preserved
-loop-q-preserved c =
-    (
-      c.is_cover.auto.memo ∙ c.loop-q.invariant.0,
-      c.is_cover.auto.from ∙ c.loop-q.invariant.1,
-      omega (arith, c.loop-q-test.true),
-      c.is_cover.ensures.known,
-      cover_on _ _ _ _ _ _ _ c.loop-q.invariant.4 c.is_cover.ensures c.if-is_cover.false,
-    )
+loop-q-preserved c = (
+  c.is_cover.auto.memo ∙ c.loop-q.invariant.0,
+  c.is_cover.auto.from ∙ c.loop-q.invariant.1,
+  omega (arith, c.loop-q-test.true),
+  c.is_cover.ensures.known,
+  cover_on _ _ _ _ _ _ _ c.loop-q.invariant.4 c.is_cover.ensures c.if-is_cover.false,
+)
 
 pub returns : goal.returns
 returns c =

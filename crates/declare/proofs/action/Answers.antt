@@ -20,7 +20,7 @@ returns-then-n-ge-ACTIONS c =
 pub copy_parameters-requires-clause-n_in_bounds : goal.copy_parameters-requires-clause-n_in_bounds
 copy_parameters-requires-clause-n_in_bounds c =
     action-room _ c.args.n _ _ c.find.ensures c.if-find-n.false
-            c.in-Distinct.is c.read_parameters.ensures
+    c.in-Distinct.is c.read_parameters.ensures
 
 pub copy_parameters-requires-clause-name_words_in_bounds : goal.copy_parameters-requires-clause-name_words_in_bounds
 copy_parameters-requires-clause-name_words_in_bounds c =

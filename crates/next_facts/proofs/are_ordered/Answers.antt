@@ -1,5 +1,5 @@
 use native.Mathlib.Omega.{arith}
-use Rattle.next_facts.proofs.KeepLaws.{ordering-start, ordering-back, ordering-read, ordering-on, ordering-end, never}
+use Rattle.next_facts.proofs.KeepLaws.{ordering-start, ordering-back, ordering-read, ordering-ask, ordering-on, ordering-end, never}
 use Rattle.std.proofs.lemmas.Bool.{not_from_true}
 use Rattle.next_facts.proofs.are_ordered.Goals as goal
 
@@ -31,3 +31,6 @@ loop-i-preserved c =
 pub returns : goal.returns
 returns c =
     ordering-end c.loop-i.invariant c.loop-i-test.false
+
+pub is_lower-requires-clause-k_le_most_places : goal.is_lower-requires-clause-k_le_most_places
+is_lower-requires-clause-k_le_most_places c = (ordering-ask c.loop-i.invariant c.loop-i-test.true c.word_at-k.ensures).2

@@ -1,4 +1,4 @@
-use Rattle.next_facts.proofs.KeepLaws.{keeping_start, keeping-many, keeping-on, keeping-end}
+use Rattle.next_facts.proofs.KeepLaws.{keeping_start, keeping-ask, keeping-many, keeping-on, keeping-end}
 use Rattle.next_facts.proofs.keep.Goals as goal
 
 pub loop-i-init : goal.loop-i-init
@@ -16,3 +16,6 @@ loop-i-preserved c =
 pub returns : goal.returns
 returns c =
     search keeping-end
+
+pub keep_row-requires-clause-room : goal.keep_row-requires-clause-room
+keep_row-requires-clause-room c = (keeping-ask c.loop-i.invariant c.loop-i-test.true).2

@@ -1,4 +1,4 @@
-use Rattle.reader.proofs.WordCode.{loop-start, loop-end, loop-room, loop-shrinks, loop-more, loop-over}
+use Rattle.reader.proofs.WordCode.{loop-start, loop-end, loop-room, loop-refused, loop-shrinks, loop-more, loop-over}
 use Rattle.reader.proofs.read_all.Goals as goal
 
 pub loop-place-init : goal.loop-place-init
@@ -20,14 +20,16 @@ read_word-stepped-requires-clause-tables c =
 
 pub read_word-stepped-requires-clause-variables : goal.read_word-stepped-requires-clause-variables
 read_word-stepped-requires-clause-variables c =
-    (
-        c.meet_word-known.ensures.table,
-        loop-room c.loop-place.invariant c.next_event-next.ensures c.is_end.ensures c.requires c.loop-place-test.true,
-      )
+    c.meet_word-known.ensures.table
 
 pub read_word-stepped-requires-clause-room : goal.read_word-stepped-requires-clause-room
 read_word-stepped-requires-clause-room c =
-    
+    loop-room c.loop-place.invariant c.next_event-next.ensures c.is_end.ensures c.requires c.loop-place-test.true
+
+pub returns-in_default : goal.returns-in_default
+returns-in_default c =
+    loop-refused c.loop-place.invariant c.next_event-next.ensures c.is_end.ensures c.if-is_end.false
+    c.meet_word-known.ensures c.read_word-stepped.ensures c.in_default.is c.refused.ensures
 
 pub loop-place-smaller : goal.loop-place-smaller
 loop-place-smaller c =

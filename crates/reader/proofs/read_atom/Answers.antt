@@ -16,15 +16,12 @@ returns-then-count-arity c =
 
 pub begin-requires-clause-predicate_lt_predicate_count : goal.begin-requires-clause-predicate_lt_predicate_count
 begin-requires-clause-predicate_lt_predicate_count c =
-    (
-        search rules,
-        atom-places c.args.names.now c.args.arities.now c.args.scope c.requires.tables c.find-i.result c.if-count-arity.false,
-      )
+    search rules
 
 pub begin-requires-clause-due_le_most_places : goal.begin-requires-clause-due_le_most_places
 begin-requires-clause-due_le_most_places c =
-    
+    atom-places c.args.names.now c.args.arities.now c.args.scope c.requires.tables c.find-i.result c.if-count-arity.false
 
 pub returns : goal.returns
 returns c =
-    search (rules, atom-name, atom-room, atom-arity, atom-places, atom-goes)
+    search atom-goes

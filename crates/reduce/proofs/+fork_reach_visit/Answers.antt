@@ -81,15 +81,14 @@ reach-returns-then-left-eq0 t c =
     reach-last c.requires.searching c.requires.k_lt_m c.requires.count_bound c.if-formed-eq-FORMED.false c.better-b.ensures c.if-left-eq0.true
 
 pub reach-visit-requires : goal.reach-visit-requires
-reach-visit-requires t c =
-    (
-      omega (arith, c.decreases, c.if-left-eq0.false, c.requires.searching.routed.rows.few),
-      (
-        reach-searching c.requires.searching c.requires.k_lt_m c.requires.count_bound c.if-formed-eq-FORMED.false c.better-b.ensures c.if-left-eq0.false,
-        reach-standing c.requires.searching c.requires.k_lt_m
-            c.requires.count_bound c.if-formed-eq-FORMED.false c.better-b.ensures c.if-left-eq0.false,
-      ),
-    )
+reach-visit-requires t c = (
+  omega (arith, c.decreases, c.if-left-eq0.false, c.requires.searching.routed.rows.few),
+  (
+    reach-searching c.requires.searching c.requires.k_lt_m c.requires.count_bound c.if-formed-eq-FORMED.false c.better-b.ensures c.if-left-eq0.false,
+    reach-standing c.requires.searching c.requires.k_lt_m
+        c.requires.count_bound c.if-formed-eq-FORMED.false c.better-b.ensures c.if-left-eq0.false,
+  ),
+)
 
 pub reach-returns : goal.reach-returns
 reach-returns t c =

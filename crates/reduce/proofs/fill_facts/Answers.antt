@@ -17,14 +17,13 @@ overflow_add-base c =
     omega (arith, table-room (c.requires) c.loop-i.facts c.loop-i.invariant.0 c.loop-i-test.true c.loop-i.invariant.2)
 
 pub loop-i-preserved : goal.loop-i-preserved
-loop-i-preserved c =
-    (
-      search rules,
-      search rules,
-      table-base (c.requires) c.loop-i.i c.loop-i.base c.loop-i.invariant.2,
-      table_more (c.requires) c.loop-i.facts c.loop-i.invariant.0 c.loop-i-test.true
-          c.loop-i.invariant.2 c.loop-i.invariant.3 c.fact_block.ensures,
-    )
+loop-i-preserved c = (
+  search rules,
+  search rules,
+  table-base (c.requires) c.loop-i.i c.loop-i.base c.loop-i.invariant.2,
+  table_more (c.requires) c.loop-i.facts c.loop-i.invariant.0 c.loop-i-test.true
+      c.loop-i.invariant.2 c.loop-i.invariant.3 c.fact_block.ensures,
+)
 
 pub returns : goal.returns
 returns c =

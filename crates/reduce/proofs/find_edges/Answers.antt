@@ -34,11 +34,10 @@ bounds-edges-i-in-loop-i c =
     simp length-set (omega (arith, c.loop-i-test.true, c.loop-i.invariant.0, c.requires.words_in_bounds))
 
 pub loop-i-preserved : goal.loop-i-preserved
-loop-i-preserved c =
-    (
-      search rules,
-      told_more c.loop-i.invariant.1 c.loop-i-test.true (omega (arith, c.loop-i.invariant.0, c.requires.words_in_bounds)) c.edge_word.ensures c.edge_word-in-loop-i.ensures,
-    )
+loop-i-preserved c = (
+  search rules,
+  told_more c.loop-i.invariant.1 c.loop-i-test.true (omega (arith, c.loop-i.invariant.0, c.requires.words_in_bounds)) c.edge_word.ensures c.edge_word-in-loop-i.ensures,
+)
 
 pub returns : goal.returns
 returns c =

@@ -1,4 +1,4 @@
-use Rattle.regress.proofs.AnswerLaws.{checked-runnable, checked-listable, checked-done, checked-stop}
+use Rattle.regress.proofs.AnswerLaws.{checked-runnable, checked-listable}
 use Rattle.regress.proofs.regress_checked.Goals as goal
 
 pub regress_space-r-requires : goal.regress_space-r-requires
@@ -8,11 +8,3 @@ regress_space-r-requires c =
 pub list_result-requires : goal.list_result-requires
 list_result-requires c =
     checked-listable c.requires c.regress_space-r.ensures c.in-Row.is
-
-pub returns-in-Row : goal.returns-in-Row
-returns-in-Row c =
-    checked-done c.requires c.regress_space-r.ensures c.in-Row.is c.list_result.ensures
-
-pub returns-in-Refused : goal.returns-in-Refused
-returns-in-Refused c =
-    checked-stop c.requires c.regress_space-r.ensures c.in-Refused.is

@@ -48,15 +48,15 @@ overflow_cast-numbers c =
 
 pub offset_bounds-numbers-k : goal.offset_bounds-numbers-k
 offset_bounds-numbers-k c =
-    let p = going-few c.loop-k.inv.6 c.loop-k-test.taken in search rules
+    search (rules, keeps-start, going_start, going-taskable, going-few, going-tasked, going-stop, going-small, going_on, going_end, ready_on)
 
 pub bounds-numbers-k : goal.bounds-numbers-k
 bounds-numbers-k c =
-    going-few c.loop-k.inv.6 c.loop-k-test.taken
+    search (rules, keeps-start, going_start, going-taskable, going-few, going-tasked, going-stop, going-small, going_on, going_end, ready_on)
 
 pub overflow_add-k : goal.overflow_add-k
 overflow_add-k c =
-    let p = going-few c.loop-k.inv.6 c.loop-k-test.taken in search rules
+    search (rules, keeps-start, going_start, going-taskable, going-few, going-tasked, going-stop, going-small, going_on, going_end, ready_on)
 
 pub loop-k-preserved : goal.loop-k-preserved
 loop-k-preserved c =

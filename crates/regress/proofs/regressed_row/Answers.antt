@@ -3,7 +3,7 @@ use Rattle.regress.proofs.regressed_row.Goals as goal
 
 pub kept_truth-r-requires : goal.kept_truth-r-requires
 kept_truth-r-requires c =
-    (row-asking c.requires.lent c.requires.tasked c.requires.ready c.requires.keeps c.in-Branch.is, c.requires.1.1)
+    record { asking = row-asking c.requires.lent c.requires.tasked c.requires.ready c.requires.keeps c.in-Branch.is; ready = c.requires.ready; keeps = c.requires.keeps }
 
 pub returns-in_default : goal.returns-in_default
 returns-in_default c =
@@ -11,11 +11,8 @@ returns-in_default c =
 
 pub row_step-requires : goal.row_step-requires
 row_step-requires c =
-    (
-      row-ready c.requires.lent c.requires.tasked c.requires.ready c.requires.keeps c.in-Branch.is c.kept_truth-r.ensures c.in-Row.is
-          c.kept_truth-r.auto.plan,
-      row-three c.requires.lent c.requires.tasked c.requires.ready c.requires.keeps c.in-Branch.is c.kept_truth-r.ensures c.in-Row.is,
-    )
+    record { ready = row-ready c.requires.lent c.requires.tasked c.requires.ready c.requires.keeps c.in-Branch.is c.kept_truth-r.ensures c.in-Row.is
+          c.kept_truth-r.auto.plan; three = row-three c.requires.lent c.requires.tasked c.requires.ready c.requires.keeps c.in-Branch.is c.kept_truth-r.ensures c.in-Row.is }
 
 pub returns-in-Leaf : goal.returns-in-Leaf
 returns-in-Leaf c =
@@ -23,4 +20,4 @@ returns-in-Leaf c =
 
 pub returns-in-Row : goal.returns-in-Row
 returns-in-Row c =
-    row_done c.requires.lent c.requires.tasked c.requires.ready c.requires.keeps c.in-Branch.is c.kept_truth-r.ensures c.in-Row.is c.Row-step.ensures
+    row_done c.requires.lent c.requires.tasked c.requires.ready c.requires.keeps c.in-Branch.is c.kept_truth-r.ensures c.in-Row.is c.row_step.ensures

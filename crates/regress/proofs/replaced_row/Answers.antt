@@ -1,6 +1,5 @@
 use Rattle.regress.proofs.RowsLaws.{leaf-told, branch-movable, branch-testable, branch-two, branch-replaced}
-use native.Mathlib.Omega.{arith}
-use Rattle.std.proofs.lemmas.Grind.{common_steps}
+use borrow.Author.Rules.{rules}
 use Rattle.regress.proofs.replaced_row.Goals as goal
 
 pub moved-test-requires : goal.moved-test-requires
@@ -13,18 +12,15 @@ test_step-requires-clause-ready c =
 
 pub test_step-requires-clause-testable : goal.test_step-requires-clause-testable
 test_step-requires-clause-testable c =
-    (
-        branch-testable c.requires.mapping c.requires.tasked c.in-Branch.is c.moved-test.ensures,
-        branch-two c.requires.mapping c.requires.tasked c.in-Branch.is,
-      )
+    branch-testable c.requires.mapping c.requires.tasked c.in-Branch.is c.moved-test.ensures
 
 pub test_step-requires-clause-two : goal.test_step-requires-clause-two
 test_step-requires-clause-two c =
-    
+    branch-two c.requires.mapping c.requires.tasked c.in-Branch.is
 
 pub returns-in-Leaf : goal.returns-in-Leaf
 returns-in-Leaf c =
-    grind (arith, common_steps, leaf-told, branch-movable, branch-testable, branch-two, branch-replaced)
+    search (rules, leaf-told, branch-movable, branch-testable, branch-two, branch-replaced)
 
 pub returns-in-Branch : goal.returns-in-Branch
 returns-in-Branch c =
