@@ -1,5 +1,5 @@
 -- The row of moves has every move once, in order, and the best of a row is the first highest.
-use Rattle.std.specs.Prelude.{◌≡◌, ◌⊎◌, Bool, true, false, ℕ, zero, suc, ◌+◌, ◌≤◌, ◌<◌, length, replicate, ltb}
+use Rattle.std.specs.Prelude.{◌≡◌, ◌⊎◌, Bool, true, false, ℕ, zero, suc, ◌≤◌, ◌<◌, length, replicate, ltb}
 use Rattle.std.proofs.Math.Path.{refl, sym, ap, subst}
 use Rattle.std.proofs.Common.{◌∙◌, zero-add, add-zero, le_refl, le_trans, ltb-true, ltb-false}
 use Rattle.std.proofs.Math.Logic.{inl, inr}
@@ -23,11 +23,15 @@ use Rattle.best.specs.Lead.{From, moves_from, lead, Won}
 
 -- ===== The order of moves =====
 
+-- `lower-not` with the lists of the second step apart from those of the first
+lower-apart : {os ps os' ps' : List ℕ} → Lower os ps → Lower ps' os' → os ≡ os' → ps ≡ ps' → ⊥
+lower-apart (differs {o = o} {p = p} h) (differs {o = p'} {p = o'} k) e d = let a : o ≡ o' = cc in let b : p ≡ p' = cc in omega arith
+lower-apart (differs {o = o} {p = p} h) (onwards {o = q} k) e d = let a : o ≡ q = cc in let b : p ≡ q = cc in omega arith
+lower-apart (onwards {o = q} h) (differs {o = p'} {p = o'} k) e d = let a : q ≡ o' = cc in let b : q ≡ p' = cc in omega arith
+lower-apart (onwards h) (onwards k) e d = lower-apart h k (cc) (cc)
+
 lower-not : {os ps : List ℕ} → Lower os ps → Lower ps os → ⊥
-lower-not (differs h) (differs k) = omega arith
-lower-not (differs h) (onwards k) = omega arith
-lower-not (onwards h) (differs k) = omega arith
-lower-not (onwards h) (onwards k) = lower-not h k
+lower-not h k = lower-apart h k refl refl
 
 earlier-not : (x y : Move) → Earlier x y → Earlier y x → ⊥
 earlier-not x y (inl h) (inl k) = omega arith

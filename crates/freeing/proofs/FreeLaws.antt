@@ -1,12 +1,12 @@
 -- Laws of the code of freeing.
 use mathlib.Core.Path.{◌≡◌, refl, sym, ap, ◌∙◌}
-use mathlib.Core.Bool.{Bool, true, false, not}
+use mathlib.Core.Bool.{Bool, true, false}
 use mathlib.Core.List.{List, [], ◌∷◌, ◌++◌}
 use Prim.Native.Nat.{ℕ, suc, ◌+◌, ◌-◌, ◌/◌, ◌≤◌, ◌<◌}
 use native.Mathlib.Omega.{arith}
 use lib.ListN.{length, drop, length-map}
 use lib.Dec.{ltb}
-use borrow.Author.Tests.{lt-ltb, not-false, not-true}
+use borrow.Author.Tests.{lt-ltb}
 use Rattle.refusal.specs.declared.Refusal.{Refusal}
 use Rattle.refusal.specs.declared.Refusal.TheVariants.{Listing, Buffer, Unbound, Range, Variables}
 use Rattle.refusal.specs.Outcome.{ok, refused}
@@ -147,13 +147,10 @@ module _ (ar words : List ℕ) (count : ℕ) (out : List ℕ) (w : ℕ) where
   says {why} e = (sym (free-refused ar words count (length out) w why e), sym (freed-refused ar words count w out why e))
 
   module _ {b : Bool} (p : b ≡ is_listing ar words) where
-    pub free-none : not b ≡ true → Says (Refused Listing) out
-    free-none e = says (free-listing ar words count (length out) w (sym p ∙ not-true b e))
+    pub free-none : b ≡ false → Says (Refused Listing) out
+    free-none e = says (free-listing ar words count (length out) w (sym p ∙ e))
 
-    module _ (f : not b ≡ false) where
-      e : b ≡ true
-      e = not-false b f
-
+    module _ (e : b ≡ true) where
       pub free-short : length out < result_words → Says (Refused Buffer) out
       free-short h = says (free-buffer ar words count (length out) w (sym p ∙ e) (or-one _ _ (lt-ltb (length out) result_words h)))
 

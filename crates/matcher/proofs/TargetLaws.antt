@@ -18,9 +18,9 @@ use Rattle.label.specs.ArityLaws.{terms-length, arity-two}
 use Rattle.paths.specs.Paths.{Literal}
 use Rattle.paths.specs.Inner.{literal_at, literals_in}
 use Rattle.cutting.specs.Match.{Partial, bind_terms, turned, ways, ways_among, plain_ways, targets}
-use Rattle.cutting.specs.MovedLaws.{EqualityTerms, equality-terms, two}
+use Rattle.cutting.specs.MovedLaws.{EqualityTerms, equality-terms}
 use Rattle.cutting.specs.MatchLaws.{lit, among_in, among-out, twice_in, twice-out}
-use Rattle.matcher.specs.Search.{along, places_in, is_equality, turn, way_place, way_places, is_nothing, alike, into_count, into_at, plain_way, equal_way, way_at, way_count, Setting, other}
+use Rattle.matcher.specs.Search.{along, places_in, is_equality, turn, way_place, way_places, is_nothing, alike, into_count, into_at, plain_way, equal_way, way_at, way_count, Setting}
 use Rattle.matcher.specs.declared.Way.{Way}
 use Rattle.matcher.specs.declared.Way.TheVariants.{Straight, Turned, Twice, Nothing}
 use Rattle.matcher.proofs.LiteralLaws.{into-mem, mem-into, alike_is, is-alike, predicate-zero, zero-predicate}

@@ -34,7 +34,7 @@ use Rattle.reader.specs.declared.Numbered.TheVariants as N
 use Rattle.reader.specs.declared.Gathered.{Gathered}
 use Rattle.reader.specs.declared.Gathered.TheVariants as G
 use Rattle.reader.specs.GatheringLaws.{kept-reading}
-use Rattle.reader.specs.Gathering.{numbered_as, moved, gathered, kept_first, kept_met, Insertable, GathersAs, Gathers}
+use Rattle.reader.specs.Gathering.{moved_in, numbered_as, moved, gathered, kept_first, kept_met, Insertable, GathersAs, Gathers}
 use Rattle.reader.specs.Callers.{met_in, names_of, Part, Reads, Meets, MeetsWord}
 use Rattle.reader.proofs.WordCode.{moves, events-next, events-none}
 use Rattle.reader.proofs.NumberCode.{order-number, order_is, order-not}
@@ -82,7 +82,7 @@ all_join (x ∷ xs) ys = ap (λ (b : Bool). is_numbered (name_of x) && b) (all_j
 
 gathered-join : (us xs ys : List Key) → gathered us (xs ++ ys) ≡ gathered (gathered us xs) ys
 gathered-join us [] ys = refl
-gathered-join us (x ∷ xs) ys = gathered-join _ xs ys
+gathered-join us (x ∷ xs) ys = gathered-join (moved_in us x) xs ys
 
 kept_more : (us xs ys : List Key) → all_numbered xs ≡ true → kept_first us (xs ++ ys) ≡ kept_first (gathered us xs) ys
 unfolding kept_first

@@ -450,6 +450,7 @@ module _ (ar : List ℕ) (d : Diagram) where
   some-tuple (suc v) = let r = zeros (suc v) (suc v) (omega arith) in (r.0, tuples-in (suc v) r.1)
 
   some-length : {A : Type 0} (x : A) (l : List A) → Memᴰ x l → 0 < length l
+  some-length {A = A} x [] i = elim i [ ]
   some-length x (y ∷ l) i = omega arith
 
   valued : 0 < length (reverse (valuations ar d))

@@ -11,7 +11,6 @@ use Rattle.refusal.specs.Outcome.{refused}
 use Rattle.basics.specs.Tests.{Flag, is_true, is_false, flag}
 use Rattle.diagram.specs.Sizes.{highest_value, space_rows, most_pairs}
 use Rattle.diagram.specs.Diagram.{Diagram, same}
-use Rattle.diagram.specs.Listing.{index}
 use Rattle.diagram.specs.Inner.{Written}
 use Rattle.apply.specs.declared.Operation.{Operation}
 use Rattle.apply.specs.Combination.{operate}

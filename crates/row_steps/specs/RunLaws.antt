@@ -5,14 +5,13 @@ use Rattle.refusal.specs.declared.Refusal.{Refusal}
 use Rattle.refusal.specs.declared.Refusal.TheVariants.{Space as NoSpace, Pairs}
 use Rattle.refusal.specs.Numbers.{number_of}
 use Rattle.refusal.specs.Outcome.{ok, refused}
-use Rattle.basics.specs.Tests.{Either, one, other, either, or-one, or-other, below}
+use Rattle.basics.specs.Tests.{Either, one, other, either, or-one, or-other}
 use Rattle.basics.specs.Members.{mem, clash}
 use Rattle.label.specs.Limits.{leaf_mark}
 use Rattle.diagram.specs.Sizes.{highest_value, space_rows, most_pairs}
 use Rattle.diagram.specs.Diagram.{Diagram, leaf, branch, same}
 use Rattle.diagram.specs.Rows.{onto}
 use Rattle.diagram.specs.Words.{label_at, high_at, low_at}
-use Rattle.diagram.specs.Listing.{index}
 use Rattle.diagram.specs.Validity.{tree}
 use Rattle.diagram.specs.Inner.{Encoded, is_part}
 use Rattle.diagram.specs.RowLists.{row_tree}

@@ -1,5 +1,5 @@
 -- The answers of a whole text: a fold over its lines (document 01, sections 'Text' and 'A run, whole').
-use Rattle.std.specs.Prelude.{Bool, true, false, cond, ◌||◌, List, [], ◌∷◌, ◌++◌, ℕ, suc, ◌+◌, eqb}
+use Rattle.std.specs.Prelude.{Bool, true, false, cond, ◌||◌, List, [], ◌∷◌, ◌++◌, ℕ, suc, eqb}
 use Rattle.refusal.specs.declared.Refusal.TheVariants.{Form, Place}
 use Rattle.diagram.specs.Listing.{listing}
 use Rattle.diagram_form.specs.Form.{form_bytes}

@@ -18,7 +18,7 @@ use Rattle.diagram.specs.Validity.{Valid}
 use Rattle.diagram.specs.Variables.{occurs}
 use Rattle.diagram.specs.RowDiagrams.{leaf-row}
 use Rattle.diagram.specs.DiagramOfListing.{valid-rows, good-diagram}
-use Rattle.state.specs.State.{value, meaning}
+use Rattle.state.specs.State.{meaning}
 use Rattle.state.specs.ValueLaws.{by-low, value_same}
 use Rattle.state.specs.Lent.{state_of}
 use Rattle.minimum.specs.NumberLaws.{split, split-low, split-high}

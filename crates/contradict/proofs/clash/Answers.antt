@@ -1,5 +1,4 @@
 use mathlib.Core.Path.{refl, sym, ◌∙◌}
-use Rattle.contradiction.specs.Contradiction.{clashes}
 use Rattle.contradict.proofs.LiteralLaws.{from-hit, from_next, from_end, literal-movable, clash-is}
 use Rattle.contradict.proofs.clash.Goals as goal
 

@@ -1,5 +1,4 @@
 use mathlib.Core.Path.{refl}
-use Rattle.contradiction.specs.Contradiction.{affirms}
 use Rattle.contradict.proofs.LiteralLaws.{from-hit, from_next, from_end, literal-movable}
 use Rattle.contradict.proofs.is_affirmed.Goals as goal
 

@@ -9,10 +9,9 @@ loop-j-init c =
     (search rules, omega arith, represented-start _ c.separate.ensures)
 
 pub loop-j-preserved : goal.loop-j-preserved
-loop-j-preserved c =
-    (
-      c.join_literal.auto.table ∙ c.loop-j.invariant.0,
-      omega (arith, c.loop-j.invariant.1),
-      represented-next c.loop-j.invariant.2 c.loop-j-test.true c.loop-j.invariant.1 refl
-          (c.requires.all_in_range.each _ (last-below c.loop-j-test.true c.loop-j.invariant.1)) c.join_literal.ensures,
-    )
+loop-j-preserved c = (
+  c.join_literal.auto.table ∙ c.loop-j.invariant.0,
+  omega (arith, c.loop-j.invariant.1),
+  represented-next c.loop-j.invariant.2 c.loop-j-test.true c.loop-j.invariant.1 refl
+      (c.requires.all_in_range.each _ (last-below c.loop-j-test.true c.loop-j.invariant.1)) c.join_literal.ensures,
+)

@@ -1,3 +1,4 @@
+use borrow.Author.Rules.{rules}
 use Rattle.matcher.proofs.BindLaws.{binding-start, binding-fails, binding-next}
 use Rattle.matcher.proofs.bind.Goals as goal
 
@@ -7,8 +8,8 @@ loop-k-init c =
 
 pub returns-then-not-place : goal.returns-then-not-place
 returns-then-not-place c =
-    binding-fails c.requires.slots c.requires.first_minimum_in_bounds c.loop-k.invariant c.loop-k-test.true c.place.ensures c.way_place-u.ensures c.place.ensures.value c.place.ensures.theta_after c.if-not-place.true
+    search (rules, binding-fails)
 
 pub loop-k-preserved : goal.loop-k-preserved
 loop-k-preserved c =
-    binding-next c.requires.slots c.requires.first_minimum_in_bounds c.loop-k.invariant c.loop-k-test.true c.place.ensures c.way_place-u.ensures c.place.ensures.value c.place.ensures.theta_after c.if-not-place.false
+    search (rules, binding-next)

@@ -1,5 +1,6 @@
 use mathlib.Core.Path.{refl}
 use Rattle.matcher.proofs.WayLaws.{equal-nothing, equal-straight, equal-turned, equal-false, equal-into, equal-tab, equal-none}
+use borrow.Author.Rules.{rules}
 use Rattle.matcher.proofs.equal_way.Goals as goal
 
 pub returns-then-not-alike : goal.returns-then-not-alike
@@ -8,11 +9,11 @@ returns-then-not-alike c =
 
 pub returns-then-j-eq0 : goal.returns-then-j-eq0
 returns-then-j-eq0 c =
-    equal-straight _ _ _ _ c.if-j-n.true refl c.alike.ensures c.if-not-alike.false c.if-j-eq0.true
+    search (rules, equal-nothing, equal-straight, equal-turned, equal-false, equal-into, equal-tab, equal-none)
 
 pub returns-then-j-n : goal.returns-then-j-n
 returns-then-j-n c =
-    equal-turned _ _ _ _ c.if-j-n.true refl c.alike.ensures c.if-not-alike.false c.if-j-eq0.false
+    search (rules, equal-nothing, equal-straight, equal-turned, equal-false, equal-into, equal-tab, equal-none)
 
 pub returns-then-x-ne1 : goal.returns-then-x-ne1
 returns-then-x-ne1 c =

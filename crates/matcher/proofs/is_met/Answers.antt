@@ -1,5 +1,6 @@
 use native.Mathlib.Omega.{arith}
-use Rattle.matcher.proofs.FindLaws.{image-small, met-equal, equates-small}
+use Rattle.matcher.proofs.FindLaws.{image-small, met-other, met-equal, equates-small}
+use borrow.Author.Rules.{rules}
 use Rattle.matcher.proofs.is_met.Goals as goal
 
 pub overflow_mul-l : goal.overflow_mul-l
@@ -12,4 +13,4 @@ overflow_add-l c =
 
 pub returns : goal.returns
 returns c =
-    met-equal c.is_equality.ensures c.if-not-is_equality.false c.place-t.ensures c.place-u.ensures c.equate.ensures c.in-Is.is c.find-2.ensures
+    search (rules, met-other, met-equal)

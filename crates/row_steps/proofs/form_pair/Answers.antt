@@ -1,4 +1,4 @@
-use Rattle.row_steps.proofs.StepRunLaws.{pair-high, pair-holds, pair-low, pair-holds-2, pair-formable, pair-formed}
+use Rattle.row_steps.proofs.StepRunLaws.{pair-high, pair-low, pair-formable, pair-formed}
 use borrow.Author.Rules.{rules}
 use Rattle.row_steps.proofs.form_pair.Goals as goal
 
@@ -12,7 +12,7 @@ returns-in_default-leaf c =
 
 pub form-requires-clause-formable : goal.form-requires-clause-formable
 form-requires-clause-formable c =
-    search (rules, pair-high, pair-holds, pair-low, pair-holds-2, pair-formable, pair-formed)
+    search (rules, pair-formable)
 
 pub returns : goal.returns
 returns c =

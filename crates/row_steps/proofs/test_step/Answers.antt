@@ -1,4 +1,4 @@
-use Rattle.row_steps.proofs.StepRunLaws.{test-full, test-holds, test-other-full, test-ready, test-four, test-split}
+use Rattle.row_steps.proofs.StepRunLaws.{test-full, test-other-full, test-ready, test-four, test-split}
 use Rattle.row_steps.proofs.test_step.Goals as goal
 
 pub returns-in_default : goal.returns-in_default

@@ -7,6 +7,7 @@ use Rattle.diagram.specs.Sizes.{most_rows}
 use Rattle.elimination.specs.Elimination.{most_entries}
 use Rattle.valuing.proofs.TablesLaws.{few-rows, above-none, tables-minimum, tables-ready, tables-over, root-start, tables-value}
 use Rattle.valuing.proofs.StartLaws.{listing-some}
+use Rattle.std.proofs.lemmas.Bool.{not_from_true}
 use Rattle.valuing.proofs.by_tables.Goals as goal
 
 pub returns-then-not-plain : goal.returns-then-not-plain
@@ -15,7 +16,7 @@ returns-then-not-plain c =
 
 pub find_above-requires : goal.find_above-requires
 find_above-requires c =
-    above-none _ _ most_rows c.requires.words_value c.requires.plain_value c.if-not-plain.false (omega arith)
+    above-none _ _ most_rows c.requires.words_value c.requires.plain_value (not_from_true _ c.if-not-plain.false) (omega arith)
 
 pub start-requires : goal.start-requires
 start-requires c =
@@ -23,11 +24,11 @@ start-requires c =
 
 pub work-requires : goal.work-requires
 work-requires c =
-    tables-ready _ _ _ _ _ _ c.requires.words_value c.requires.facts_value c.requires.objects_value c.requires.plain_value c.if-not-plain.false c.start.ensures c.find_above.ensures
+    tables-ready _ _ _ _ _ _ c.requires.words_value c.requires.facts_value c.requires.objects_value c.requires.plain_value (not_from_true _ c.if-not-plain.false) c.start.ensures c.find_above.ensures
 
 pub returns-in_default : goal.returns-in_default
 returns-in_default c =
-    tables-over _ _ _ _ _ _ c.requires.words_value c.requires.facts_value c.requires.objects_value c.requires.plain_value c.if-not-plain.false c.start.ensures c.work.ensures c.in_default.is
+    tables-over _ _ _ _ _ _ c.requires.words_value c.requires.facts_value c.requires.objects_value c.requires.plain_value (not_from_true _ c.if-not-plain.false) c.start.ensures c.work.ensures c.in_default.is
 
 pub overflow_sub-root : goal.overflow_sub-root
 overflow_sub-root c =
@@ -51,14 +52,14 @@ bounds-heads-root c =
 
 pub offset_bounds-space-at : goal.offset_bounds-space-at
 offset_bounds-space-at c =
-    let first = root-start _ _ _ _ _ _ c.requires.words_value c.requires.facts_value c.requires.objects_value c.requires.plain_value c.if-not-plain.false c.start.ensures c.work.ensures c.in-At.is in
+    let first = root-start _ _ _ _ _ _ c.requires.words_value c.requires.facts_value c.requires.objects_value c.requires.plain_value (not_from_true _ c.if-not-plain.false) c.start.ensures c.work.ensures c.in-At.is in
     omega (arith, first, c.work.auto.space, length-replicate {A = ℕ} most_entries 0)
 
 pub bounds-space-at : goal.bounds-space-at
 bounds-space-at c =
-    let first = root-start _ _ _ _ _ _ c.requires.words_value c.requires.facts_value c.requires.objects_value c.requires.plain_value c.if-not-plain.false c.start.ensures c.work.ensures c.in-At.is in
+    let first = root-start _ _ _ _ _ _ c.requires.words_value c.requires.facts_value c.requires.objects_value c.requires.plain_value (not_from_true _ c.if-not-plain.false) c.start.ensures c.work.ensures c.in-At.is in
     omega (arith, first, c.work.auto.space, length-replicate {A = ℕ} most_entries 0)
 
 pub returns : goal.returns
 returns c =
-    tables-value _ _ _ _ _ _ c.requires.words_value c.requires.facts_value c.requires.objects_value c.requires.plain_value c.if-not-plain.false c.start.ensures c.work.ensures c.in-At.is refl
+    tables-value _ _ _ _ _ _ c.requires.words_value c.requires.facts_value c.requires.objects_value c.requires.plain_value (not_from_true _ c.if-not-plain.false) c.start.ensures c.work.ensures c.in-At.is refl

@@ -32,10 +32,10 @@ returns-then-most-best c =
 
 pub rise_all-requires : goal.rise_all-requires
 rise_all-requires c =
-    let begun = started c.start.ensures in (
-      found-chosen c.requires.prepared _ c.requires.objects_value begun (omega (arith, c.ranges)) c.go-most.ensures,
-      found-most c.requires.prepared _ c.requires.objects_value begun (omega (arith, c.ranges)) c.go-most.ensures,
-    )
+    let begun = started c.start.ensures in record {
+      chosen = found-chosen c.requires.prepared _ c.requires.objects_value begun (omega (arith, c.ranges)) c.go-most.ensures;
+      topmost = found-most c.requires.prepared _ c.requires.objects_value begun (omega (arith, c.ranges)) c.go-most.ensures;
+    }
 
 pub returns : goal.returns
 returns c =

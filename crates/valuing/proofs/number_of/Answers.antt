@@ -13,8 +13,8 @@ climb_rows-best-requires-clause-prepared c =
 
 pub climb_rows-best-requires-clause-objects_value : goal.climb_rows-best-requires-clause-objects_value
 climb_rows-best-requires-clause-objects_value c =
-    (refl, c.requires.in_state.is_plain)
+    refl
 
 pub climb_rows-best-requires-clause-plain_value : goal.climb_rows-best-requires-clause-plain_value
 climb_rows-best-requires-clause-plain_value c =
-    
+    c.requires.in_state.is-plain

@@ -18,9 +18,9 @@ pub is_small-requires-clause-n_nonzero : goal.is_small-requires-clause-n_nonzero
 is_small-requires-clause-n_nonzero c =
     search lent-some
 
-pub number_of-requires : goal.number_of-requires
-number_of-requires c =
-    (in-state c.requires.words_value c.requires.facts_value c.used.ensures c.is_plain-plain.ensures, c.requires.1.1)
+pub number_of-requires-clause-in_state : goal.number_of-requires-clause-in_state
+number_of-requires-clause-in_state c =
+    in-state c.requires.words_value c.requires.facts_value c.used.ensures c.is_plain-plain.ensures
 
 pub returns-then-is_small : goal.returns-then-is_small
 returns-then-is_small c =

@@ -1,0 +1,21 @@
+use Rattle.next_facts.proofs.KeepLaws.{keeping_start, keeping-ask, keeping-many, keeping-on, keeping-end}
+use Rattle.next_facts.proofs.keep.Goals as goal
+
+pub loop-i-init : goal.loop-i-init
+loop-i-init c =
+    search keeping_start
+
+pub returns-in_default : goal.returns-in_default
+returns-in_default c =
+    search keeping-many
+
+pub loop-i-preserved : goal.loop-i-preserved
+loop-i-preserved c =
+    search keeping-on
+
+pub returns : goal.returns
+returns c =
+    search keeping-end
+
+pub keep_row-requires-clause-room : goal.keep_row-requires-clause-room
+keep_row-requires-clause-room c = (keeping-ask c.loop-i.invariant c.loop-i-test.true).2

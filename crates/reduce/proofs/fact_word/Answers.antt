@@ -1,0 +1,14 @@
+use Rattle.reduce.proofs.TableLaws.{word-leaf, word-movable, word-branch}
+use Rattle.reduce.proofs.fact_word.Goals as goal
+
+pub returns-then-w : goal.returns-then-w
+returns-then-w c =
+    search word-leaf
+
+pub renamed-f-requires : goal.renamed-f-requires
+renamed-f-requires c =
+    search word-movable
+
+pub returns : goal.returns
+returns c =
+    search word-branch

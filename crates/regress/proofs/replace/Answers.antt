@@ -1,0 +1,68 @@
+use Rattle.regress.proofs.RowsLaws.{going_start, going-taskable, going-few, going-tasked, going-stop, going-small, going_on, going_end, ready_on}
+use borrow.Author.Rules.{rules}
+use mathlib.Core.Path.{refl, sym, ◌∙◌}
+use Rattle.regression.specs.Regression.{replacement}
+use Rattle.regress.proofs.replace.Goals as goal
+
+pub loop-k-init : goal.loop-k-init
+loop-k-init c =
+    (refl, refl, refl, refl, refl, c.requires.ready, going_start _ _ _ 1024 c.requires.words_value refl)
+
+pub slice_bounds-task_at-end : goal.slice_bounds-task_at-end
+slice_bounds-task_at-end c =
+    sym c.loop-k.invariant.6.places
+
+pub task_at-task-requires : goal.task_at-task-requires
+task_at-task-requires c =
+    going-taskable c.loop-k.invariant.6 c.loop-k-test.true
+
+pub replaced_row-r-requires-clause-mapping : goal.replaced_row-r-requires-clause-mapping
+replaced_row-r-requires-clause-mapping c =
+    c.requires.mapping
+
+pub replaced_row-r-requires-clause-tasked : goal.replaced_row-r-requires-clause-tasked
+replaced_row-r-requires-clause-tasked c =
+    going-tasked c.loop-k.invariant.6 c.loop-k-test.true c.task_at-task.ensures
+
+pub replaced_row-r-requires-clause-ready : goal.replaced_row-r-requires-clause-ready
+replaced_row-r-requires-clause-ready c =
+    c.loop-k.invariant.5
+
+pub returns-in_default : goal.returns-in_default
+unfolding replacement
+returns-in_default c =
+    going-stop c.loop-k.invariant.6 c.loop-k-test.true c.task_at-task.ensures c.replaced_row-r.ensures c.in_default.is
+
+pub overflow_cast-numbers : goal.overflow_cast-numbers
+overflow_cast-numbers c =
+    let p = going-small c.loop-k.invariant.6 c.loop-k-test.true c.task_at-task.ensures c.replaced_row-r.ensures c.in-Row.is in
+    search rules
+
+pub offset_bounds-numbers-k : goal.offset_bounds-numbers-k
+offset_bounds-numbers-k c =
+    search (rules, going_start, going-taskable, going-few, going-tasked, going-stop, going-small, going_on, going_end, ready_on)
+
+pub bounds-numbers-k : goal.bounds-numbers-k
+bounds-numbers-k c =
+    search (rules, going_start, going-taskable, going-few, going-tasked, going-stop, going-small, going_on, going_end, ready_on)
+
+pub overflow_add-k : goal.overflow_add-k
+overflow_add-k c =
+    search (rules, going_start, going-taskable, going-few, going-tasked, going-stop, going-small, going_on, going_end, ready_on)
+
+pub loop-k-preserved : goal.loop-k-preserved
+loop-k-preserved c =
+    (
+      c.replaced_row-r.auto.plan ∙ c.loop-k.invariant.0,
+      c.replaced_row-r.auto.index ∙ c.loop-k.invariant.1,
+      c.replaced_row-r.auto.space ∙ c.loop-k.invariant.2,
+      c.replaced_row-r.auto.heads ∙ c.loop-k.invariant.3,
+      c.replaced_row-r.auto.links ∙ c.loop-k.invariant.4,
+      ready_on c.loop-k.invariant.5 c.replaced_row-r.ensures c.replaced_row-r.auto.plan c.in-Row.is,
+      going_on c.loop-k.invariant.6 c.loop-k-test.true c.task_at-task.ensures c.replaced_row-r.ensures c.in-Row.is,
+    )
+
+pub returns : goal.returns
+unfolding replacement
+returns c =
+    going_end c.loop-k.invariant.6 c.loop-k-test.false c.loop-k.invariant.5.space c.loop-k.invariant.5.clean
