@@ -44,17 +44,16 @@ loop-k-smaller c =
     )
 
 pub loop-k-preserved : goal.loop-k-preserved
-loop-k-preserved c =
-    (
-      c.run_op-r.auto.plan ∙ c.loop-k.invariant.0,
-      c.run_op-r.auto.index ∙ c.loop-k.invariant.1,
-      c.run_op-r.auto.space ∙ c.loop-k.invariant.2,
-      c.run_op-r.auto.heads ∙ c.loop-k.invariant.3,
-      c.run_op-r.auto.links ∙ c.loop-k.invariant.4,
-      c.run_op-r.auto.stack ∙ c.loop-k.invariant.5,
-      running-ready c.loop-k.invariant.7 c.loop-k-test.true c.run_op-r.ensures c.loop-k.invariant.6 c.run_op-r.auto.plan c.in-To.is,
-      running-on c.loop-k.invariant.7 c.loop-k-test.true c.run_op-r.ensures c.in-To.is,
-    )
+loop-k-preserved c = (
+  c.run_op-r.auto.plan ∙ c.loop-k.invariant.0,
+  c.run_op-r.auto.index ∙ c.loop-k.invariant.1,
+  c.run_op-r.auto.space ∙ c.loop-k.invariant.2,
+  c.run_op-r.auto.heads ∙ c.loop-k.invariant.3,
+  c.run_op-r.auto.links ∙ c.loop-k.invariant.4,
+  c.run_op-r.auto.stack ∙ c.loop-k.invariant.5,
+  running-ready c.loop-k.invariant.7 c.loop-k-test.true c.run_op-r.ensures c.loop-k.invariant.6 c.run_op-r.auto.plan c.in-To.is,
+  running-on c.loop-k.invariant.7 c.loop-k-test.true c.run_op-r.ensures c.in-To.is,
+)
 
 pub returns-in-Refused : goal.returns-in-Refused
 returns-in-Refused c =

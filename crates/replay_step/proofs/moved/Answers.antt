@@ -1,3 +1,4 @@
+use Rattle.replay_step.proofs.RewardLaws.{met-low}
 use Rattle.replay_step.proofs.RewardLaws.{rows_few, rows_inside, rows_long, move-many, move-told, move-rewarding}
 use native.Mathlib.Omega.{arith}
 use Rattle.replay_step.proofs.moved.Goals as goal
@@ -26,3 +27,11 @@ pub returns : goal.returns
 returns c =
     move-told c.next_facts.ensures c.requires.moving.words c.next_facts.auto.out
     c.in-Rows.is c.rewards_met-met.ensures c.told.ensures
+
+pub told-requires : goal.told-requires
+told-requires c =
+    record {
+      count_le_highest_value = c.requires.count_le_highest_value;
+      total_le_highest_value = c.requires.total_le_highest_value;
+      low = met-low (move-rewarding c.requires.moving _ c.requires.words_value c.requires.indexed c.next_facts.ensures c.in-Rows.is) _ c.rewards_met-met.ensures;
+    }

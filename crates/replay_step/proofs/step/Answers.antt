@@ -1,3 +1,4 @@
+use Rattle.replay_step.proofs.StepLaws.{move-ready, reward-listed}
 use Rattle.model.proofs.CheckLaws.{part-words}
 use Rattle.replay_step.proofs.StepLaws.{place_inside, weight-ready, step-weightless, step-moved}
 use borrow.Author.Rules.{rules}
@@ -24,3 +25,14 @@ returns c =
     let words = part-words c.args.listings.now c.args.head.reward_start c.args.head.reward_words in
     step-moved c.requires words c.has_no_weight.ensures c.if-has_no_weight.false
     c.moved.ensures
+
+pub moved-requires : goal.moved-requires
+moved-requires c =
+    let words = part-words c.args.listings.now c.args.head.reward_start c.args.head.reward_words in
+    record {
+      moving = move-ready c.requires;
+      words_value = reward-listed c.requires words;
+      indexed = c.requires.indexed;
+      count_le_highest_value = c.requires.count-few;
+      total_le_highest_value = c.requires.total-few;
+    }
