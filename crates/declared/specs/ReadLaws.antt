@@ -93,6 +93,7 @@ Asks ar c p Always = Unit {0}
 Asks ar c p (Is l) = DeclaredLabel ar c p l.packed
 
 all-member : (P : ℕ → Type 0) (us : List ℕ) → T.All P us → (t : ℕ) → Memᴰ t us → P t
+all-member P [] a t x'' = elim x'' [ ]
 all-member P (u ∷ us) a t (Memᴰ.head e) = subst P (sym e) a.0
 all-member P (u ∷ us) a t (Memᴰ.tail m) = all-member P us a.1 t m
 

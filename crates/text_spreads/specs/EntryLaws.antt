@@ -31,6 +31,7 @@ use Rattle.text_spreads.specs.LineLaws.{value-is}
 -- ===== The entries =====
 
 entry-states : (m : ℕ) (f : ℕ → ℕ) (vs : List ℕ) (e : Entry) → Memᴰ e (map (λ v. record { value = v; states = count_of m f v }) vs) → e.states ≡ count_of m f e.value
+entry-states m f [] e x' = elim x' [ ]
 entry-states m f (v ∷ vs) e (Memᴰ.head p) = ap (λ (x : Entry). x.states) p ∙ ap (λ (x : Entry). count_of m f x.value) (sym p)
 entry-states m f (v ∷ vs) e (Memᴰ.tail h) = entry-states m f vs e h
 

@@ -1,4 +1,5 @@
-use Rattle.regress.proofs.AnswerLaws.{regress-lent, regress-regressable}
+use Rattle.regress.proofs.AnswerLaws.{regress-none, regress-unlisted, regress-short, regress-narrow, regress-lent, regress-regressable, regress-faulty, regress-passed}
+use Rattle.std.proofs.lemmas.Bool.{not_from_false}
 use Rattle.std.proofs.lemmas.Bool.{not_from_true}
 use Rattle.regress.proofs.regress.Goals as goal
 
@@ -9,3 +10,55 @@ judge_all-v-requires c =
 pub regress_checked-requires : goal.regress_checked-requires
 regress_checked-requires c =
     regress-regressable _ _ _ _ c.args.out.now c.args.work.now c.check.ensures (not_from_true _ c.if-not-check.false) c.are_listed.ensures (not_from_true _ c.if-not-are_listed.false) c.if-out-lt-RESULT_WORDS.false c.if-work-lt-SPACE_WORDS.false
+
+pub returns-then-not-check-clause-value : goal.returns-then-not-check-clause-value
+returns-then-not-check-clause-value c =
+    (regress-none _ _ _ _ c.args.out.now c.args.work.now c.check.ensures (not_from_false _ c.if-not-check.true)).0
+
+pub returns-then-not-check-clause-out_after : goal.returns-then-not-check-clause-out_after
+returns-then-not-check-clause-out_after c =
+    (regress-none _ _ _ _ c.args.out.now c.args.work.now c.check.ensures (not_from_false _ c.if-not-check.true)).1
+
+pub returns-then-not-are_listed-clause-value : goal.returns-then-not-are_listed-clause-value
+returns-then-not-are_listed-clause-value c =
+    (regress-unlisted _ _ _ _ c.args.out.now c.args.work.now c.check.ensures (not_from_true _ c.if-not-check.false) c.are_listed.ensures (not_from_false _ c.if-not-are_listed.true)).0
+
+pub returns-then-not-are_listed-clause-out_after : goal.returns-then-not-are_listed-clause-out_after
+returns-then-not-are_listed-clause-out_after c =
+    (regress-unlisted _ _ _ _ c.args.out.now c.args.work.now c.check.ensures (not_from_true _ c.if-not-check.false) c.are_listed.ensures (not_from_false _ c.if-not-are_listed.true)).1
+
+pub returns-then-out-lt-RESULT_WORDS-clause-value : goal.returns-then-out-lt-RESULT_WORDS-clause-value
+returns-then-out-lt-RESULT_WORDS-clause-value c =
+    (regress-short _ _ _ _ c.args.out.now c.args.work.now c.check.ensures (not_from_true _ c.if-not-check.false) c.are_listed.ensures (not_from_true _ c.if-not-are_listed.false) c.if-out-lt-RESULT_WORDS.true).0
+
+pub returns-then-out-lt-RESULT_WORDS-clause-out_after : goal.returns-then-out-lt-RESULT_WORDS-clause-out_after
+returns-then-out-lt-RESULT_WORDS-clause-out_after c =
+    (regress-short _ _ _ _ c.args.out.now c.args.work.now c.check.ensures (not_from_true _ c.if-not-check.false) c.are_listed.ensures (not_from_true _ c.if-not-are_listed.false) c.if-out-lt-RESULT_WORDS.true).1
+
+pub returns-then-work-lt-SPACE_WORDS-clause-value : goal.returns-then-work-lt-SPACE_WORDS-clause-value
+returns-then-work-lt-SPACE_WORDS-clause-value c =
+    (regress-narrow _ _ _ _ c.args.out.now c.args.work.now c.check.ensures (not_from_true _ c.if-not-check.false) c.are_listed.ensures (not_from_true _ c.if-not-are_listed.false) c.if-work-lt-SPACE_WORDS.true).0
+
+pub returns-then-work-lt-SPACE_WORDS-clause-out_after : goal.returns-then-work-lt-SPACE_WORDS-clause-out_after
+returns-then-work-lt-SPACE_WORDS-clause-out_after c =
+    (regress-narrow _ _ _ _ c.args.out.now c.args.work.now c.check.ensures (not_from_true _ c.if-not-check.false) c.are_listed.ensures (not_from_true _ c.if-not-are_listed.false) c.if-work-lt-SPACE_WORDS.true).1
+
+pub returns-in-Passed-clause-value : goal.returns-in-Passed-clause-value
+returns-in-Passed-clause-value c =
+    (regress-passed _ _ _ _ c.args.out.now c.args.work.now c.check.ensures (not_from_true _ c.if-not-check.false) c.are_listed.ensures (not_from_true _ c.if-not-are_listed.false) c.if-out-lt-RESULT_WORDS.false
+    c.if-work-lt-SPACE_WORDS.false c.judge_all-v.ensures c.in-Passed.is (c.regress_checked.ensures.value, c.regress_checked.ensures.out_after)).0
+
+pub returns-in-Passed-clause-out_after : goal.returns-in-Passed-clause-out_after
+returns-in-Passed-clause-out_after c =
+    (regress-passed _ _ _ _ c.args.out.now c.args.work.now c.check.ensures (not_from_true _ c.if-not-check.false) c.are_listed.ensures (not_from_true _ c.if-not-are_listed.false) c.if-out-lt-RESULT_WORDS.false
+    c.if-work-lt-SPACE_WORDS.false c.judge_all-v.ensures c.in-Passed.is (c.regress_checked.ensures.value, c.regress_checked.ensures.out_after)).1
+
+pub returns-in-Refused-clause-value : goal.returns-in-Refused-clause-value
+returns-in-Refused-clause-value c =
+    (regress-faulty _ _ _ _ c.args.out.now c.args.work.now c.check.ensures (not_from_true _ c.if-not-check.false) c.are_listed.ensures (not_from_true _ c.if-not-are_listed.false) c.if-out-lt-RESULT_WORDS.false c.if-work-lt-SPACE_WORDS.false
+    c.judge_all-v.ensures c.in-Refused.is).0
+
+pub returns-in-Refused-clause-out_after : goal.returns-in-Refused-clause-out_after
+returns-in-Refused-clause-out_after c =
+    (regress-faulty _ _ _ _ c.args.out.now c.args.work.now c.check.ensures (not_from_true _ c.if-not-check.false) c.are_listed.ensures (not_from_true _ c.if-not-are_listed.false) c.if-out-lt-RESULT_WORDS.false c.if-work-lt-SPACE_WORDS.false
+    c.judge_all-v.ensures c.in-Refused.is).1

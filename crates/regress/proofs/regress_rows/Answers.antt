@@ -48,28 +48,27 @@ overflow_cast-numbers c =
 
 pub offset_bounds-numbers-k : goal.offset_bounds-numbers-k
 offset_bounds-numbers-k c =
-    search (rules, keeps-start, going_start, going-taskable, going-few, going-tasked, going-stop, going-small, going_on, going_end, ready_on)
+    let p = going-few c.loop-k.invariant.6 c.loop-k-test.true in search rules
 
 pub bounds-numbers-k : goal.bounds-numbers-k
 bounds-numbers-k c =
-    search (rules, keeps-start, going_start, going-taskable, going-few, going-tasked, going-stop, going-small, going_on, going_end, ready_on)
+    going-few c.loop-k.invariant.6 c.loop-k-test.true
 
 pub overflow_add-k : goal.overflow_add-k
 overflow_add-k c =
-    search (rules, keeps-start, going_start, going-taskable, going-few, going-tasked, going-stop, going-small, going_on, going_end, ready_on)
+    let p = going-few c.loop-k.invariant.6 c.loop-k-test.true in search rules
 
 pub loop-k-preserved : goal.loop-k-preserved
-loop-k-preserved c =
-    (
-      c.regressed_row-r.auto.plan ∙ c.loop-k.invariant.0,
-      c.regressed_row-r.auto.index ∙ c.loop-k.invariant.1,
-      c.regressed_row-r.auto.space ∙ c.loop-k.invariant.2,
-      c.regressed_row-r.auto.heads ∙ c.loop-k.invariant.3,
-      c.regressed_row-r.auto.links ∙ c.loop-k.invariant.4,
-      ready_on c.loop-k.invariant.5 c.regressed_row-r.ensures.ran c.regressed_row-r.auto.plan c.in-Row.is,
-      going_on c.loop-k.invariant.6 c.loop-k-test.true c.task_at-task.ensures c.regressed_row-r.ensures.ran c.in-Row.is,
-      c.regressed_row-r.ensures.keeps _ _ c.in-Row.is,
-    )
+loop-k-preserved c = (
+  c.regressed_row-r.auto.plan ∙ c.loop-k.invariant.0,
+  c.regressed_row-r.auto.index ∙ c.loop-k.invariant.1,
+  c.regressed_row-r.auto.space ∙ c.loop-k.invariant.2,
+  c.regressed_row-r.auto.heads ∙ c.loop-k.invariant.3,
+  c.regressed_row-r.auto.links ∙ c.loop-k.invariant.4,
+  ready_on c.loop-k.invariant.5 c.regressed_row-r.ensures.ran c.regressed_row-r.auto.plan c.in-Row.is,
+  going_on c.loop-k.invariant.6 c.loop-k-test.true c.task_at-task.ensures c.regressed_row-r.ensures.ran c.in-Row.is,
+  c.regressed_row-r.ensures.keeps _ _ c.in-Row.is,
+)
 
 pub returns : goal.returns
 unfolding regression

@@ -11,8 +11,11 @@ returns-in_default c =
 
 pub row_step-requires : goal.row_step-requires
 row_step-requires c =
-    record { ready = row-ready c.requires.lent c.requires.tasked c.requires.ready c.requires.keeps c.in-Branch.is c.kept_truth-r.ensures c.in-Row.is
-          c.kept_truth-r.auto.plan; three = row-three c.requires.lent c.requires.tasked c.requires.ready c.requires.keeps c.in-Branch.is c.kept_truth-r.ensures c.in-Row.is }
+    record {
+      ready = row-ready c.requires.lent c.requires.tasked c.requires.ready c.requires.keeps c.in-Branch.is c.kept_truth-r.ensures c.in-Row.is
+          c.kept_truth-r.auto.plan;
+      three = row-three c.requires.lent c.requires.tasked c.requires.ready c.requires.keeps c.in-Branch.is c.kept_truth-r.ensures c.in-Row.is;
+    }
 
 pub returns-in-Leaf : goal.returns-in-Leaf
 returns-in-Leaf c =

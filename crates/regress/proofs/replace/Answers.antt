@@ -40,27 +40,26 @@ overflow_cast-numbers c =
 
 pub offset_bounds-numbers-k : goal.offset_bounds-numbers-k
 offset_bounds-numbers-k c =
-    search (rules, going_start, going-taskable, going-few, going-tasked, going-stop, going-small, going_on, going_end, ready_on)
+    let p = going-few c.loop-k.invariant.6 c.loop-k-test.true in search rules
 
 pub bounds-numbers-k : goal.bounds-numbers-k
 bounds-numbers-k c =
-    search (rules, going_start, going-taskable, going-few, going-tasked, going-stop, going-small, going_on, going_end, ready_on)
+    going-few c.loop-k.invariant.6 c.loop-k-test.true
 
 pub overflow_add-k : goal.overflow_add-k
 overflow_add-k c =
-    search (rules, going_start, going-taskable, going-few, going-tasked, going-stop, going-small, going_on, going_end, ready_on)
+    let p = going-few c.loop-k.invariant.6 c.loop-k-test.true in search rules
 
 pub loop-k-preserved : goal.loop-k-preserved
-loop-k-preserved c =
-    (
-      c.replaced_row-r.auto.plan ∙ c.loop-k.invariant.0,
-      c.replaced_row-r.auto.index ∙ c.loop-k.invariant.1,
-      c.replaced_row-r.auto.space ∙ c.loop-k.invariant.2,
-      c.replaced_row-r.auto.heads ∙ c.loop-k.invariant.3,
-      c.replaced_row-r.auto.links ∙ c.loop-k.invariant.4,
-      ready_on c.loop-k.invariant.5 c.replaced_row-r.ensures c.replaced_row-r.auto.plan c.in-Row.is,
-      going_on c.loop-k.invariant.6 c.loop-k-test.true c.task_at-task.ensures c.replaced_row-r.ensures c.in-Row.is,
-    )
+loop-k-preserved c = (
+  c.replaced_row-r.auto.plan ∙ c.loop-k.invariant.0,
+  c.replaced_row-r.auto.index ∙ c.loop-k.invariant.1,
+  c.replaced_row-r.auto.space ∙ c.loop-k.invariant.2,
+  c.replaced_row-r.auto.heads ∙ c.loop-k.invariant.3,
+  c.replaced_row-r.auto.links ∙ c.loop-k.invariant.4,
+  ready_on c.loop-k.invariant.5 c.replaced_row-r.ensures c.replaced_row-r.auto.plan c.in-Row.is,
+  going_on c.loop-k.invariant.6 c.loop-k-test.true c.task_at-task.ensures c.replaced_row-r.ensures c.in-Row.is,
+)
 
 pub returns : goal.returns
 unfolding replacement
