@@ -31,11 +31,10 @@ returns-in_default c =
     acting-stops c.requires.laid c.loop-a.invariant.1 c.try_action-r.ensures c.loop-a-test.true c.in_default.is
 
 pub loop-a-preserved : goal.loop-a-preserved
-loop-a-preserved c =
-    (
-      c.try_action-r.auto.work ∙ c.loop-a.invariant.0,
-      acting-on c.requires.laid c.loop-a.invariant.1 c.try_action-r.ensures c.loop-a-test.true c.in-To.is,
-    )
+loop-a-preserved c = (
+  c.try_action-r.auto.work ∙ c.loop-a.invariant.0,
+  acting-on c.requires.laid c.loop-a.invariant.1 c.try_action-r.ensures c.loop-a-test.true c.in-To.is,
+)
 
 pub returns : goal.returns
 returns c =
