@@ -4,7 +4,8 @@ use Rattle.planner.proofs.take_reward.Goals as goal
 
 pub copy-requires : goal.copy-requires
 copy-requires c =
-    let e = part-words c.args.listings.now c.args.head.reward_start c.args.head.reward_words in (taking-there c.requires e, taking-room c.requires e)
+    let e = part-words c.args.listings.now c.args.head.reward_start c.args.head.reward_words in
+    record { count_in_bounds = taking-there c.requires e; count_in_bounds_2 = taking-room c.requires e }
 
 pub returns : goal.returns
 returns c =

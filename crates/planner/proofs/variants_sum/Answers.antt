@@ -13,7 +13,7 @@ loop-v-init c =
 pub add_variant-r-requires-clause-variant_task : goal.add_variant-r-requires-clause-variant_task
 add_variant-r-requires-clause-variant_task c =
     summing-task c.requires.action_task c.requires.value_task c.loop-v.invariant.2 c.loop-v-test.true
-          (c.loop-v.invariant.0 ∙ c.begin-n.auto.out) c.loop-v.invariant.1
+    (c.loop-v.invariant.0 ∙ c.begin-n.auto.out) c.loop-v.invariant.1
 
 pub add_variant-r-requires-clause-g_le_highest_value : goal.add_variant-r-requires-clause-g_le_highest_value
 add_variant-r-requires-clause-g_le_highest_value c =
@@ -28,12 +28,11 @@ returns-in_default c =
     summing-stops c.requires.action_task c.requires.value_task c.loop-v.invariant.2 c.loop-v-test.true c.add_variant-r.ensures c.in_default.is
 
 pub loop-v-preserved : goal.loop-v-preserved
-loop-v-preserved c =
-    (
-      c.add_variant-r.auto.sum ∙ c.loop-v.invariant.0,
-      c.add_variant-r.auto.work ∙ c.loop-v.invariant.1,
-      summing_on c.requires.action_task c.requires.value_task c.loop-v.invariant.2 c.loop-v-test.true c.add_variant-r.ensures c.in-Rows.is,
-    )
+loop-v-preserved c = (
+  c.add_variant-r.auto.sum ∙ c.loop-v.invariant.0,
+  c.add_variant-r.auto.work ∙ c.loop-v.invariant.1,
+  summing_on c.requires.action_task c.requires.value_task c.loop-v.invariant.2 c.loop-v-test.true c.add_variant-r.ensures c.in-Rows.is,
+)
 
 pub returns : goal.returns
 returns c =

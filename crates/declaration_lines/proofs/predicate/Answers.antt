@@ -1,0 +1,18 @@
+use Rattle.memory.specs.WordLaws.{second-in}
+use Rattle.text.specs.declared.Kind.TheVariants.{Predicate}
+use Rattle.declaration_lines.proofs.SaysLaws.{predicate-done, predicate-refused}
+use Rattle.declaration_lines.proofs.predicate.Goals as goal
+
+pub next_event-second-requires : goal.next_event-second-requires
+next_event-second-requires c =
+    search (second-in Predicate)
+
+pub returns-in-Done : goal.returns-in-Done
+returns-in-Done c =
+    predicate-done _ _ c.first_word.ensures c.next_event-first.ensures
+    c.key_in-key.ensures c.next_event-second.ensures c.number_in-arity.ensures
+    c.predicate.ensures c.in-Done.is c.with_tables.ensures
+
+pub returns-in-Refused : goal.returns-in-Refused
+returns-in-Refused c =
+    search predicate-refused

@@ -1,0 +1,30 @@
+use Rattle.diagram_lines.proofs.LineLaws.{line-begins}
+use Rattle.diagram_lines.proofs.TruthLaws.{becomes-arity, becomes-known, read-refused, read-drawable, read-drawn}
+use borrow.Author.Rules.{rules}
+use Rattle.diagram_lines.proofs.read_truth.Goals as goal
+
+pub bounds-arities-p : goal.bounds-arities-p
+bounds-arities-p c =
+    becomes-known c.requires.lent _ c.requires.p_lt_predicate_count
+
+pub draw_truth-requires-clause-drawable : goal.draw_truth-requires-clause-drawable
+draw_truth-requires-clause-drawable c =
+    read-drawable c.requires.lent _ c.first_word-first.ensures c.head_arguments-headed.ensures c.in-Arguments.is (search rules) c.requires.result_words_in_bounds
+
+pub draw_truth-requires-clause-words_le_listing_words : goal.draw_truth-requires-clause-words_le_listing_words
+draw_truth-requires-clause-words_le_listing_words c =
+    c.requires.lent.used
+
+pub returns-in-Refused : goal.returns-in-Refused
+returns-in-Refused c =
+    read-refused c.requires.lent _ c.first_word-first.ensures c.head_arguments-headed.ensures c.in-Refused.is
+
+pub returns-in-Arguments : goal.returns-in-Arguments
+returns-in-Arguments c =
+    read-drawn c.requires.lent _ c.first_word-first.ensures c.head_arguments-headed.ensures c.in-Arguments.is
+    c.draw_truth.ensures
+
+pub head_arguments-headed-requires-clause-arity_in_bounds : goal.head_arguments-headed-requires-clause-arity_in_bounds
+head_arguments-headed-requires-clause-arity_in_bounds c =
+    (let h = becomes-arity c.requires.lent c.args.p in
+    (line-begins c.requires.lent.line c.first_word-first.ensures, search rules)).1

@@ -1,0 +1,22 @@
+use Prim.Native.Nat.{◌*◌}
+use Rattle.state.specs.Lent.{fact_words}
+use Rattle.facts.specs.Words.{facts_base}
+use Rattle.facts.specs.PartLaws.{part-lent}
+use Rattle.run_lines.proofs.ValueLaws.{rows_long, constants-long, value_read_lem, value-refused}
+use Rattle.run_lines.proofs.value.Goals as goal
+
+pub slice_bounds-value_indexed-end : goal.slice_bounds-value_indexed-end
+slice_bounds-value_indexed-end c =
+    rows_long c.requires
+
+pub slice_bounds-value_indexed-end-2 : goal.slice_bounds-value_indexed-end-2
+slice_bounds-value_indexed-end-2 c =
+    constants-long c.requires
+
+pub returns-in-Value : goal.returns-in-Value
+returns-in-Value c =
+    value_read_lem (part-lent c.args.state.now facts_base (c.args.n.live.facts * fact_words)) c.value_indexed-v.ensures c.in-Value.is
+
+pub returns-in-Refused : goal.returns-in-Refused
+returns-in-Refused c =
+    value-refused (part-lent c.args.state.now facts_base (c.args.n.live.facts * fact_words)) c.value_indexed-v.ensures c.in-Refused.is
