@@ -19,11 +19,3 @@
 -- definitions
 pub mod FormedRows
 pub mod ReadAgain
--- laws
-pub mod ByteLaws
-pub mod FormedRowLaws
-pub mod PairCountLaws
-pub mod RowStepLaws
-pub mod RoomLaws
-pub mod AcceptLaws
-pub mod SessionLaws

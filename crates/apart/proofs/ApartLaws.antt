@@ -35,7 +35,7 @@ use Rattle.apply.specs.declared.Combined.{Combined}
 use Rattle.apply.specs.declared.Combined.TheVariants.{Refused}
 use Rattle.apply.specs.Apply.{apply}
 use Rattle.apply.specs.Combination.{operate, combination, too_many, operand_rows, diagram_answer, written}
-use Rattle.apply.specs.CombinationLaws.{rows-formed, diagrams-variables}
+use Rattle.apply.proofs.CombinationLaws.{rows-formed, diagrams-variables}
 use Rattle.store.specs.declared.Formed.{Formed}
 use Rattle.store.specs.declared.Formed.TheVariants.{Row, Full}
 use Rattle.store.specs.Space.{diagrams_of, Formation}

@@ -24,7 +24,7 @@ use Rattle.apply.specs.declared.Combined.{Combined}
 use Rattle.apply.specs.declared.Combined.TheVariants.{Refused}
 use Rattle.apply.specs.Apply.{apply}
 use Rattle.apply.specs.ApplyLaws.{ordered-apply, reduced-apply}
-use Rattle.apply.specs.GoodLaws.{fine-apply}
+use Rattle.apply.proofs.GoodLaws.{fine-apply}
 use Rattle.apply.specs.Pairs.{pairs, pair_count, overflows}
 use Rattle.apply.specs.Combination.{operate}
 use Rattle.plan.specs.Walk.{Leads}

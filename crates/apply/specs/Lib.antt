@@ -57,12 +57,3 @@ pub mod Inner
 pub mod Walk
 pub mod ApplyLaws
 pub mod Course
-pub mod PairLaws
-pub mod VisitLaws
-pub mod OverflowLaws
-pub mod RowLaws
-pub mod FormedLaws
-pub mod Canon
-pub mod GoodLaws
-pub mod CombinationLaws
-pub mod ZeroLaws

@@ -45,10 +45,3 @@ pub mod Best
 pub mod Claims
 pub mod Inner
 pub mod Lead
--- laws
-pub mod LeadLaws
-pub mod BestLaws
-pub mod OneLaws
-pub mod RefusalLaws
-pub mod NumberLaws
-pub mod Table

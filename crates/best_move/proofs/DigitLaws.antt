@@ -33,7 +33,7 @@ use Rattle.basics.specs.Tests.{and_left, and_right}
 use Rattle.diagram.specs.Words.{up_to}
 use Rattle.state.specs.Lent.{all_below}
 use Rattle.state.specs.Max.{gather, tuples}
-use Rattle.state.specs.MaxLaws.{gather-last}
+use Rattle.state.proofs.MaxLaws.{gather-last}
 use Rattle.names.specs.Many.{many}
 use Rattle.names.specs.ManyLaws.{many-ext}
 use Rattle.best_move.specs.Inside.{digits, Tupled}

@@ -12,9 +12,9 @@ use Rattle.diagram.specs.Variables.{closed}
 use Rattle.rename.specs.ClosingLaws.{closed-count, closed-good}
 use Rattle.refusal.specs.Outcome.{ok, refused, Accepted}
 use Rattle.refusal.specs.OutcomeLaws.{accepted-ok, accepted-refused, accepted-then}
-use Rattle.regression.specs.CallLaws.{Gives, gives-bind, gives-mono, form-gives}
+use Rattle.regression.proofs.CallLaws.{Gives, gives-bind, gives-mono, form-gives}
 use Rattle.regression.specs.Step.{test_diagram}
-use Rattle.regression.specs.StepLaws.{most-eval, eval-test, ordered-test, step_gives, eval-stepped, from-stepped, reduced-stepped, every-stepped}
+use Rattle.regression.proofs.StepLaws.{most-eval, eval-test, ordered-test, step_gives, eval-stepped, from-stepped, reduced-stepped, every-stepped}
 use Rattle.regression.specs.Result.{AtMost, asked, stepped}
 use Rattle.build.specs.Build.{meaning, read_diagram, held, text_diagram, reward_diagram}
 use Rattle.build.specs.Written.{diagram_for, EachAsked, EachValue}

@@ -17,7 +17,7 @@ use Rattle.refusal.specs.declared.Refusal.{Refusal}
 use Rattle.refusal.specs.declared.Refusal.TheVariants.{Truth, Unbound}
 use Rattle.label.specs.Limits.{first_parameter, parameter_count, first_variable, term_end, predicate_count, equality}
 use Rattle.label.specs.Labels.{are_arities}
-use Rattle.label.specs.ArityLaws.{arity-words}
+use Rattle.label.proofs.ArityLaws.{arity-words}
 use Rattle.diagram.specs.Sizes.{result_words}
 use Rattle.diagram.specs.Diagram.{Diagram, same}
 use Rattle.diagram.specs.DiagramLaws.{same-eq, same_refl}

@@ -5,7 +5,7 @@ use Rattle.std.proofs.lemmas.Bool.{eqb-false, not-true}
 use Rattle.basics.specs.Tests.{Flag, is_true, is_false, flag}
 use Rattle.basics.specs.Members.{clash}
 use Rattle.label.specs.Limits.{first_parameter, parameter_count, first_variable, variable_count, minimum_count, term_end, predicate_count, equality}
-use Rattle.label.specs.LabelLaws.{term-below}
+use Rattle.label.proofs.LabelLaws.{term-below}
 use Rattle.diagram.specs.Diagram.{Diagram, leaf, branch, same}
 use Rattle.diagram.specs.DiagramLaws.{same-eq, same_refl}
 use Rattle.diagram.specs.Words.{is_listing}
@@ -16,14 +16,14 @@ use Rattle.listing.specs.Check.{Decides}
 use Rattle.rename.specs.VariableLaws.{occurs-term}
 use Rattle.state.specs.State.{meaning}
 use Rattle.state.specs.Terms.{Terms}
-use Rattle.state.specs.ValueLaws.{Terms-mono}
-use Rattle.minimum.specs.OccurLaws.{terms-occur, occur-terms}
+use Rattle.state.proofs.ValueLaws.{Terms-mono}
+use Rattle.minimum.proofs.OccurLaws.{terms-occur, occur-terms}
 use Rattle.regression.specs.Result.{AtMost}
 use Rattle.regression.specs.Parameters.{Within}
 use Rattle.regression.specs.RegressCall.{leaf_above, any_occurs, unbound_variable}
-use Rattle.regression.specs.RegressCallLaws.{above-leaf, above-branch, above_most, any-quiet, quiet-any}
+use Rattle.regression.proofs.RegressCallLaws.{above-leaf, above-branch, above_most, any-quiet, quiet-any}
 use Rattle.mdp.specs.Model.{GoodTruthDiagram, most_variants}
-use Rattle.mdp.specs.CallLaws.{within-each, each_within}
+use Rattle.mdp.proofs.CallLaws.{within-each, each_within}
 use Rattle.model.specs.Layout.{action_words, variant_place, weight_words, variants_of}
 use Rattle.checking.specs.DecisionLaws.{decide, on, both, unless, at_most, is_true_lem, every}
 use Rattle.checking.specs.Fitting.{own_parameters, is_truth, is_weight, is_value, truth_at, truth_fits, variant_fits, action_fits, actions_fit}

@@ -24,7 +24,7 @@ use Rattle.apply.specs.declared.Names.TheVariants.{Apart, Shared}
 use Rattle.apply.specs.declared.Combined.{Combined}
 use Rattle.apply.specs.declared.Combined.TheVariants.{Refused}
 use Rattle.apply.specs.Combination.{combination, done_as, combine_answer, combine_result, written}
-use Rattle.apply.specs.CombinationLaws.{answer-first, answer-second, answer-buffer, answer-diagrams, result-refused}
+use Rattle.apply.proofs.CombinationLaws.{answer-first, answer-second, answer-buffer, answer-diagrams, result-refused}
 use Rattle.combine.specs.Calls.{Callable, CombineAnswered}
 
 -- `if !test(..)`

@@ -10,7 +10,7 @@ use borrow.Author.Tests.{lt-ltb, le-ltb, ltb-false}
 use Rattle.basics.specs.Tests.{Flag, is_true, is_false, flag}
 use Rattle.refusal.specs.declared.Refusal.TheVariants.{Pairs, Value, Space}
 use Rattle.label.specs.Limits.{leaf_mark}
-use Rattle.label.specs.LabelLaws.{label-below}
+use Rattle.label.proofs.LabelLaws.{label-below}
 use Rattle.diagram.specs.Sizes.{most_rows, space_rows, most_pairs, highest_value, result_words, space_words}
 use Rattle.diagram.specs.Diagram.{Diagram}
 use Rattle.diagram.specs.Rows.{onto, rows}
@@ -27,8 +27,8 @@ use Rattle.apply.specs.declared.Combined.TheVariants.{Done, Refused}
 use Rattle.apply.specs.Apply.{apply}
 use Rattle.apply.specs.Pairs.{pairs, pair_count, overflows}
 use Rattle.apply.specs.Combination.{operate, combination, diagram_answer, written, rows_formed}
-use Rattle.apply.specs.CombinationLaws.{rows-shared}
-use Rattle.apply.specs.RowLaws.{rows-onto}
+use Rattle.apply.proofs.CombinationLaws.{rows-shared}
+use Rattle.apply.proofs.RowLaws.{rows-onto}
 use Rattle.plan.specs.Walk.{Leads}
 use Rattle.plan.specs.Plan.{Clean}
 use Rattle.plan.specs.PlanLaws.{index-empty}

@@ -22,7 +22,7 @@ use Rattle.apply.specs.declared.Operation.{Operation}
 use Rattle.apply.specs.Combination.{operate}
 use Rattle.apply.specs.Apply.{node}
 use Rattle.apply.specs.Formed.{add}
-use Rattle.apply.specs.FormedLaws.{add-mem, add-begins}
+use Rattle.apply.proofs.FormedLaws.{add-mem, add-begins}
 use Rattle.store.proofs.SpaceLaws.{length-diagrams, diagram-at, formation-row, formation-full}
 use Rattle.plan.specs.Plan.{pair_label_at, first_at, second_at}
 use Rattle.store.specs.Space.{diagrams_of, Holds, Children, form_answer, Formation, add_all}

@@ -13,10 +13,10 @@ use Rattle.apply.specs.declared.Operation.{Operation}
 use Rattle.apply.specs.Combination.{operate}
 use Rattle.apply.specs.Pairs.{pairs, pair_count, overflows}
 use Rattle.apply.specs.Visit.{visit}
-use Rattle.apply.specs.VisitLaws.{visit-count}
-use Rattle.apply.specs.OverflowLaws.{overflows-visit}
+use Rattle.apply.proofs.VisitLaws.{visit-count}
+use Rattle.apply.proofs.OverflowLaws.{overflows-visit}
 use Rattle.apply.specs.Formed.{formed}
-use Rattle.apply.specs.FormedLaws.{formed-visit}
+use Rattle.apply.proofs.FormedLaws.{formed-visit}
 use Rattle.plan.specs.Walk.{is_end, on_high, on_low, finish_pairs, walked}
 use Rattle.plan.specs.Walk as rows
 use Rattle.plan.specs.WalkLaws.{finish-end, finish-branch}

@@ -15,9 +15,9 @@ use Rattle.apply.specs.Combination.{operate}
 use Rattle.apply.specs.ApplyLaws.{apply-step}
 use Rattle.apply.specs.Pairs.{overflows}
 use Rattle.apply.specs.Course.{inner-calm}
-use Rattle.apply.specs.OverflowLaws.{overflows-none, overflows-cons, overflows-append}
+use Rattle.apply.proofs.OverflowLaws.{overflows-none, overflows-cons, overflows-append}
 use Rattle.apply.specs.Formed.{add, formed}
-use Rattle.apply.specs.FormedLaws.{formed-none, formed-cons}
+use Rattle.apply.proofs.FormedLaws.{formed-none, formed-cons}
 use Rattle.plan.specs.Walk.{is_end, on_high, on_low}
 use Rattle.plan.specs.Walk as rows
 use Rattle.plan.specs.WalkLaws.{end-label}

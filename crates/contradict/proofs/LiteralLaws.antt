@@ -17,13 +17,13 @@ use Rattle.label.specs.Callers.{Movable}
 use Rattle.label.specs.declared.Label.{Label}
 use Rattle.label.specs.declared.Test.{Test}
 use Rattle.label.specs.declared.Test.TheVariants.{Always, Is}
-use Rattle.label.specs.ArityLaws.{mem-at}
+use Rattle.label.proofs.ArityLaws.{mem-at}
 use Rattle.paths.specs.Paths.{Literal}
 use Rattle.paths.specs.Inner.{AllInRange, literal_at, literals_in}
 use Rattle.paths.specs.PathLaws.{label-range, mem-unmap}
 use Rattle.contradiction.specs.Contradiction.{some_literal, asked, asks_for, affirms, is_said, clashes, clash_under, contradicts, representative}
-use Rattle.contradiction.specs.JoinLaws.{TermsBelow, terms-labels, representative-below}
-use Rattle.contradiction.specs.AgreeLaws.{clash-agree}
+use Rattle.contradiction.proofs.JoinLaws.{TermsBelow, terms-labels, representative-below}
+use Rattle.contradiction.proofs.AgreeLaws.{clash-agree}
 use Rattle.contradict.specs.Representing.{Represented, Labelled, Readable}
 use Rattle.contradict.proofs.TableLaws.{label_at, sign-odd, literals-drop, literals-none}
 

@@ -26,7 +26,7 @@ use Rattle.paths.specs.Routes.{path_at}
 use Rattle.paths.specs.CodeLaws.{half, codes-are}
 use Rattle.paths.specs.PathLaws.{mem-unmap, path-in, paths-are, listing-rows}
 use Rattle.cutting.specs.Searchable.{PathLabels}
-use Rattle.cutting.specs.CoverLaws.{path-labels, every-path-in, every-path-out}
+use Rattle.cutting.proofs.CoverLaws.{path-labels, every-path-in, every-path-out}
 use Rattle.contradiction.specs.Contradiction.{contradicts, passes, leads_to}
 use Rattle.contradict.specs.declared.Led.TheVariants.{Only, Others, Many}
 use Rattle.contradict.specs.Representing.{Labelled}

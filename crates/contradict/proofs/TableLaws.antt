@@ -12,14 +12,14 @@ use Rattle.basics.specs.Tests.{Cmp, cmp, below, equal, above}
 use Rattle.label.specs.Limits.{term_end, equality}
 use Rattle.label.specs.Labels.{are_arities, predicate_of, unpacked, terms_of}
 use Rattle.label.specs.Inner.{map_of}
-use Rattle.label.specs.ArityLaws.{arity-two}
+use Rattle.label.proofs.ArityLaws.{arity-two}
 use Rattle.label.specs.declared.Atom.{Atom}
 use Rattle.paths.specs.Paths.{Literal}
 use Rattle.paths.specs.Inner.{InRange, literal_at, literals_in}
 use Rattle.paths.specs.PathLaws.{range-terms}
 use Rattle.contradiction.specs.Contradiction.{Equates, joining, representative}
-use Rattle.contradiction.specs.JoinLaws.{literal-names, literal-stays, representative-more}
-use Rattle.contradiction.specs.AgreeLaws.{join-agree}
+use Rattle.contradiction.proofs.JoinLaws.{literal-names, literal-stays, representative-more}
+use Rattle.contradiction.proofs.AgreeLaws.{join-agree}
 use Rattle.contradict.specs.Representing.{Own, Merged, Taken, Represented}
 
 -- `exchanged`

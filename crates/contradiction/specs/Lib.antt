@@ -27,10 +27,3 @@
 -- Examples has document 02's example and its neighbours, by computation; AgreeLaws are for proofs of the code.
 
 pub mod Contradiction
--- laws
-pub mod JoinLaws
-pub mod ContradictionLaws
-pub mod StateLaws
-pub mod ExactLaws
-pub mod AgreeLaws
-pub mod Examples

@@ -10,7 +10,7 @@ use lib.Dec.{eqb}
 use borrow.Author.Tests.{eq-eqb, ne_eqb}
 use Rattle.state.specs.Lent.{fact_words}
 use Rattle.spread.specs.Ground.{Ground, ground_facts, ground_count, bits, chosen, row_of, rows_of, lent_choice}
-use Rattle.spread.specs.GroundLaws.{length-ground}
+use Rattle.spread.proofs.GroundLaws.{length-ground}
 use Rattle.count_states.specs.Facts.{picked, Choosing, Chosen}
 use Rattle.count_states.proofs.RowLaws.{length-row}
 

@@ -9,7 +9,7 @@ use lib.Seq.{get_or-append-add, get_or_at, ext_get_or}
 use Rattle.basics.specs.Tests.{Cmp, cmp, below, equal, above}
 use Rattle.state.specs.Max.{tuples}
 use Rattle.spread.specs.Ground.{Ground, ground, joined, facts_of}
-use Rattle.spread.specs.GroundLaws.{length-joined, tuples-joined, length-tuples}
+use Rattle.spread.proofs.GroundLaws.{length-joined, tuples-joined, length-tuples}
 use Rattle.count_states.specs.Facts.{digits, first_facts}
 
 -- ===== Lists by index =====

@@ -13,7 +13,7 @@ use Rattle.rename.specs.Ascending.{Ascending}
 use Rattle.rename.specs.AscendingLaws.{ascending-not, ascending-above, mem-place}
 use Rattle.state.specs.Highest.{insert}
 use Rattle.spread.specs.Spread.{Entry, values, count_of, entries}
-use Rattle.spread.specs.SpreadLaws.{values-ascend, values-occur, count_none, entries-values}
+use Rattle.spread.proofs.SpreadLaws.{values-ascend, values-occur, count_none, entries-values}
 use Rattle.count_states.specs.Table.{line_words, value_at, states_at, entry_at, entries_at, once, more, enter, most_states, Enterable}
 use Rattle.count_states.proofs.DigitLaws.{map_at}
 use Rattle.count_states.proofs.TableLaws.{nothing, entry-is, length-entries, entries-at}

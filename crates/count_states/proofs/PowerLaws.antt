@@ -6,7 +6,7 @@ use native.Mathlib.Omega.{arith}
 use native.Mathlib.Nat.{pow-zero, pow-suc, pow-le-pow_left, pow-le-pow_right, le_trans}
 use lib.ListN.{length, get_or}
 use Rattle.label.specs.Limits.{most_places, predicate_count}
-use Rattle.label.specs.ArityLaws.{arity-most, arity-words}
+use Rattle.label.proofs.ArityLaws.{arity-most, arity-words}
 use Rattle.spread.specs.Ground.{ground_count}
 use Rattle.state.specs.Lent.{most_objects}
 use Rattle.count_states.specs.Facts.{most_power, Power, Declared}

@@ -6,7 +6,7 @@ use native.Mathlib.Omega.{arith}
 use lib.ListN.{length, get_or, take, drop, set, replicate, length-set, length-append, length-drop, length-replicate, take-append-drop}
 use lib.Seq.{take-suc, append_snoc, set_at, length-take-le, take_all, take-append-add, get_or-drop, paste, paste-zero, paste-suc, take-paste}
 use Rattle.label.specs.Limits.{most_places}
-use Rattle.label.specs.ArityLaws.{arity-most}
+use Rattle.label.proofs.ArityLaws.{arity-most}
 use Rattle.state.specs.Lent.{fact_words}
 use Rattle.spread.specs.Ground.{Ground, ground, joined, facts_of, row_of, rows_of, ground_facts, ground_count}
 use Rattle.count_states.specs.Facts.{digits, first_facts, Declared, Fillable, Writable, Follow}

@@ -20,13 +20,13 @@ use Rattle.diagram.specs.ListingValid.{listing-is-valid}
 use Rattle.state.specs.declared.Valued.{Valued}
 use Rattle.state.specs.declared.Valued.TheVariants.{Value, Refused}
 use Rattle.state.specs.Lent.{fact_words, some_below, state_of, is_state}
-use Rattle.state.specs.LentLaws.{some-made}
+use Rattle.state.proofs.LentLaws.{some-made}
 use Rattle.elimination.specs.Answer.{is_too_large}
 use Rattle.spread.specs.Ground.{most_ground, ground_facts, ground_count, rows_of, lent_choice, choice_state}
 use Rattle.spread.specs.Spread.{Entry, entry_words, entries, values, value_in, entries_of, some_too_large, spread}
-use Rattle.spread.specs.ChoiceLaws.{arities-few}
-use Rattle.spread.specs.LeafLaws.{entries-few}
-use Rattle.spread.specs.LentChoiceLaws.{lent-choice, choice-good, spread-many}
+use Rattle.spread.proofs.ChoiceLaws.{arities-few}
+use Rattle.spread.proofs.LeafLaws.{entries-few}
+use Rattle.spread.proofs.LentChoiceLaws.{lent-choice, choice-good, spread-many}
 use Rattle.fact_index.specs.Inner.{Indexed, indexed_count, Clean}
 use Rattle.valuing.specs.Search.{Topping, Tops}
 use Rattle.valuing.specs.Walks.{bound_number, bound_answer, climbed, is_few, Prepared}

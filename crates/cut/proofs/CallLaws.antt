@@ -25,7 +25,7 @@ use Rattle.diagram.specs.DiagramOfListing.{diagram-is, rows_are}
 use Rattle.diagram.specs.ListingValid.{listing-is-valid}
 use Rattle.paths.specs.Paths.{paths, most_paths}
 use Rattle.cutting.specs.Cut.{Choice, goes, stays, may_go, choice_below, choice, chosen_answer, diagram_answer, cut_diagram, written, answer_buffer, cut_answer, cut_buffer}
-use Rattle.cutting.specs.TruthLaws.{minimum-first}
+use Rattle.cutting.proofs.TruthLaws.{minimum-first}
 use Rattle.paths.specs.Inner.{Rows, Counted, Routed}
 use Rattle.cutting.specs.declared.Edge.TheVariants.{True, False}
 use Rattle.cutting.specs.declared.Cut.{Cut}

@@ -22,7 +22,7 @@ use Rattle.paths.specs.Inner.{bit, Rows}
 use Rattle.paths.specs.PathLaws.{listing-rows, row_is}
 use Rattle.cutting.specs.Cut.{cut_at, reduced, cut_diagram, written}
 use Rattle.reduction.specs.Inner.{all_but}
-use Rattle.reduction.specs.KeepingLaws.{cut-keeping}
+use Rattle.reduction.proofs.KeepingLaws.{cut-keeping}
 use Rattle.pruning.specs.Pruning.{kept_of, edge_at, Agrees, Prunable, Pruned}
 use Rattle.cut.specs.Calls.{Writable, Trimmed}
 

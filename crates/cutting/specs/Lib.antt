@@ -46,9 +46,3 @@ pub mod Cut
 pub mod Truth
 -- what laws of the search suppose
 pub mod Searchable
--- laws
-pub mod MovedLaws
-pub mod MatchLaws
-pub mod CoverLaws
-pub mod TruthLaws
-pub mod ReduceLaws

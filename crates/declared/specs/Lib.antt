@@ -36,13 +36,3 @@ pub mod RewardAgain
 pub mod Inner
 -- inner
 pub mod Proper
--- laws
-pub mod ClosingLaws
-pub mod RegressLaws
-pub mod BackupLaws
-pub mod ReadLaws
-pub mod NameLaws
-pub mod GrowthLaws
-pub mod LineLaws
-pub mod TextLaws
-pub mod RewardAgainLaws

@@ -6,7 +6,7 @@ use mathlib.Core.List.{List, []}
 use Rattle.std.proofs.lemmas.Bool.{eqb-false}
 use Rattle.basics.specs.Tests.{Flag, is_true, is_false, flag}
 use Rattle.label.specs.Limits.{leaf_mark}
-use Rattle.label.specs.LabelLaws.{label-below}
+use Rattle.label.proofs.LabelLaws.{label-below}
 use Rattle.diagram.specs.Diagram.{Diagram, leaf, branch, From}
 use Rattle.diagram.specs.Rows.{onto, rows}
 use Rattle.diagram.specs.Words.{label_at, high_at, low_at, row_count, equal_rows, up_to, finish}

@@ -5,7 +5,7 @@ use Rattle.basics.specs.Tests.{Flag, is_true, is_false, flag}
 use Rattle.basics.specs.Members.{clash}
 use Rattle.label.specs.Limits.{equality}
 use Rattle.label.specs.Labels.{is_label, unpacked, predicate_of, place_at, in_order}
-use Rattle.label.specs.LabelLaws.{label-fits}
+use Rattle.label.proofs.LabelLaws.{label-fits}
 use Rattle.label.specs.declared.Atom.{Atom}
 use Rattle.diagram.specs.Words.{label_at, row_count, is_listing}
 use Rattle.diagram.specs.Validity.{ValidRow, a-leaf, a-branch}

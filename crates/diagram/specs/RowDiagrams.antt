@@ -5,7 +5,7 @@ use Rattle.std.proofs.lemmas.Bool.{eqb-false}
 use Rattle.basics.specs.Tests.{Flag, is_true, is_false, flag, Cmp, cmp, below, equal, above}
 use Rattle.label.specs.Limits.{leaf_mark}
 use Rattle.label.specs.Labels.{is_label}
-use Rattle.label.specs.LabelLaws.{label-below}
+use Rattle.label.proofs.LabelLaws.{label-below}
 use Rattle.diagram.specs.Diagram.{leaf, branch, From, Reduced}
 use Rattle.diagram.specs.Words.{label_at, high_at, low_at}
 use Rattle.diagram.specs.Listing.{tree_at, Fine}

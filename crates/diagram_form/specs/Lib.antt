@@ -16,5 +16,3 @@
 
 -- definitions
 pub mod Form
--- laws
-pub mod FormLaws

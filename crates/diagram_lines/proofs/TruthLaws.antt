@@ -36,7 +36,7 @@ use Rattle.reader.specs.declared.Opened.TheVariants as P
 use Rattle.reader.specs.declared.Headed.{Headed}
 use Rattle.reader.specs.declared.Headed.TheVariants as H
 use Rattle.reader.specs.Callers.{variable_words, names_of as table_names, judged_predicate, PredicateWithin, Opens, judged_head, HeadWithin, Heads}
-use Rattle.label.specs.ArityLaws.{arity-most, arity-words}
+use Rattle.label.proofs.ArityLaws.{arity-most, arity-words}
 use Rattle.drawing.specs.declared.Built.{Built}
 use Rattle.drawing.specs.declared.Built.TheVariants.{Done, Refused}
 use Rattle.drawing.specs.Writing.{built_as}

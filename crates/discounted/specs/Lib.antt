@@ -25,6 +25,3 @@
 -- definitions
 pub mod Fraction
 pub mod Discounted
--- laws
-pub mod FractionLaws
-pub mod DiscountedLaws

@@ -16,9 +16,9 @@ use Rattle.apart.specs.Results.{Regular}
 use Rattle.refusal.specs.Outcome.{Outcome, ok, refused, Accepted}
 use Rattle.regression.specs.Calls.{form}
 use Rattle.refusal.specs.OutcomeLaws.{accepted-ok, accepted-refused, accepted-then}
-use Rattle.regression.specs.CallLaws.{form-gives}
+use Rattle.regression.proofs.CallLaws.{form-gives}
 use Rattle.regression.specs.Step.{test_diagram, row_step}
-use Rattle.regression.specs.StepLaws.{eval-most, most-eval, eval-test, ordered-test, step_gives, eval-stepped, from-stepped, reduced-stepped, every-stepped}
+use Rattle.regression.proofs.StepLaws.{eval-most, most-eval, eval-test, ordered-test, step_gives, eval-stepped, from-stepped, reduced-stepped, every-stepped}
 use Rattle.regression.specs.Result.{AtMost, asked, stepped}
 use Rattle.build.specs.ReadingLaws.{fine-made}
 use Rattle.build.specs.Machine.{Machine, given, closing, operation, operations, lone, build, most_tests, most_results}

@@ -22,8 +22,8 @@ use Rattle.state.specs.State.{State}
 use Rattle.elimination.specs.Tables as T
 use Rattle.elimination.specs.Tables.{leaf_table, entries, aggregate_entries}
 use Rattle.elimination.specs.Elimination.{label_variables, untested, row_join, row_union, row_drops, row_table, tables, row_entries, entries_to, most_entries}
-use Rattle.elimination.specs.RowLaws.{table_at}
-use Rattle.elimination.specs.CountLaws.{entries-step}
+use Rattle.elimination.proofs.RowLaws.{table_at}
+use Rattle.elimination.proofs.CountLaws.{entries-step}
 use Rattle.eliminate.specs.declared.Worked.TheVariants.{Table, Full}
 use Rattle.eliminate.specs.Masks.{names_of}
 use Rattle.eliminate.specs.MaskLaws.{of-ascending, of_and}

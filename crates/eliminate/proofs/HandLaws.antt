@@ -17,7 +17,7 @@ use Rattle.diagram.specs.Validity.{BranchRow}
 use Rattle.diagram.specs.RowDiagrams.{branch_row}
 use Rattle.diagram.specs.DiagramOfListing.{valid-rows}
 use Rattle.elimination.specs.Elimination.{label_variables, has_edge, tested_above}
-use Rattle.elimination.specs.AboveLaws.{edge-high, edge-low, edge-down, tested-own, tested-on, tested-from}
+use Rattle.elimination.proofs.AboveLaws.{edge-high, edge-low, edge-down, tested-own, tested-on, tested-from}
 use Rattle.eliminate.specs.Masks.{names_of}
 use Rattle.eliminate.specs.MaskLaws.{of_or}
 use Rattle.eliminate.specs.Calls.{Labelled}

@@ -17,9 +17,9 @@ use Rattle.rename.specs.AscendingLaws.{ascending-one, ascending-weaken}
 use Rattle.state.specs.State.{State}
 use Rattle.elimination.specs.Tables.{Table, leaf_table, join, aggregate_all}
 use Rattle.elimination.specs.Elimination.{tested_above, untested, row_join, row_union, row_drops, row_table}
-use Rattle.elimination.specs.AboveLaws.{tested-from, mem-untested}
-use Rattle.elimination.specs.TableLaws.{mem-aggregate_all, aggregate_all-named, aggregate_all-full, aggregate_all-sees, union-full, join-sees, unite-sees}
-use Rattle.elimination.specs.RowLaws.{row-branch}
+use Rattle.elimination.proofs.AboveLaws.{tested-from, mem-untested}
+use Rattle.elimination.proofs.TableLaws.{mem-aggregate_all, aggregate_all-named, aggregate_all-full, aggregate_all-sees, union-full, join-sees, unite-sees}
+use Rattle.elimination.proofs.RowLaws.{row-branch}
 use Rattle.eliminate.specs.Masks.{names_of, place_of}
 use Rattle.eliminate.specs.MaskLaws.{of-ascending, of_and}
 use Rattle.eliminate.specs.Calls.{set_at, start_at}

@@ -16,13 +16,13 @@ use Rattle.rename.specs.Ascending.{Ascending}
 use Rattle.rename.specs.AscendingLaws.{ascending-one, ascending-above}
 use Rattle.state.specs.State.{atom_of, State, holds, fixed}
 use Rattle.state.specs.Terms.{args}
-use Rattle.state.specs.ValueLaws.{by-low, low-lt}
+use Rattle.state.proofs.ValueLaws.{by-low, low-lt}
 use Rattle.state.specs.Highest.{vars_of, start}
 use Rattle.elimination.specs.Tables.{Table, sum_to, count_choices, join, unite}
 use Rattle.elimination.specs.Elimination.{label_variables}
-use Rattle.elimination.specs.NameLaws.{Whence, new, old, in-vars_of, vars_of-in, vars_of-keeps, vars_of-ascending, holds_agree}
-use Rattle.elimination.specs.CountLaws.{label_cases}
-use Rattle.elimination.specs.CaseLaws.{sum-swap, count-agree}
+use Rattle.elimination.proofs.NameLaws.{Whence, new, old, in-vars_of, vars_of-in, vars_of-keeps, vars_of-ascending, holds_agree}
+use Rattle.elimination.proofs.CountLaws.{label_cases}
+use Rattle.elimination.proofs.CaseLaws.{sum-swap, count-agree}
 use Rattle.eliminate.specs.Masks.{names_of, env_of, decoded}
 use Rattle.eliminate.specs.MaskLaws.{of-ascending, of_or}
 use Rattle.eliminate.specs.PlaceLaws.{Within, within-set, env-set}

@@ -19,7 +19,7 @@ use Rattle.rename.specs.AscendingLaws.{ascending-one, mem-place}
 use Rattle.state.specs.State.{atom_of}
 use Rattle.elimination.specs.Tables.{sum_to}
 use Rattle.elimination.specs.Elimination.{label_variables, most_entries}
-use Rattle.elimination.specs.NameLaws.{Whence, new, old, in-vars_of, vars_of-in, vars_of-ascending}
+use Rattle.elimination.proofs.NameLaws.{Whence, new, old, in-vars_of, vars_of-in, vars_of-ascending}
 use Rattle.eliminate.specs.Masks.{names_of, env_of, decoded}
 use Rattle.eliminate.specs.MaskLaws.{names-zero, of_zero, of-ascending, of-below, of_or, of_one}
 use Rattle.eliminate.specs.PlaceLaws.{Within, decoded-length, decoded-other, decoded-range, decoded-over}

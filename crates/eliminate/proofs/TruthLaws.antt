@@ -11,12 +11,12 @@ use borrow.Author.Tests.{eq-eqb, ne_eqb, eqb-true, leb-true}
 use Rattle.basics.specs.Tests.{and_left, and_right, Cmp, below, equal, above, cmp}
 use Rattle.label.specs.Limits.{term_end, most_places, predicate_count, equality, equality_arity}
 use Rattle.label.specs.Labels.{are_arities, all_at_most, predicate_of, place_at, places_of, unpacked, terms_of}
-use Rattle.label.specs.LabelLaws.{label-fits, place_of, place_end}
+use Rattle.label.proofs.LabelLaws.{label-fits, place_of, place_end}
 use Rattle.diagram.specs.Words.{equal_lists}
 use Rattle.diagram.specs.WordLaws.{get_d_map, lists-equal, equal-lists}
 use Rattle.state.specs.State.{equated}
 use Rattle.state.specs.Lent.{fact_words, fact_count, predicate_at, objects_at, says_fact, said_by}
-use Rattle.state.specs.LentLaws.{some-made, some-none, objects-length as row-length, object-at}
+use Rattle.state.proofs.LentLaws.{some-made, some-none, objects-length as row-length, object-at}
 use Rattle.eliminate.specs.Masks.{env_of}
 use Rattle.eliminate.specs.Calls.{Labelled, Asked, objects_of, lent_truth, tells}
 

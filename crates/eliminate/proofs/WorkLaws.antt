@@ -15,9 +15,9 @@ use Rattle.state.specs.State.{State, Fits}
 use Rattle.elimination.specs.Tables as T
 use Rattle.elimination.specs.Tables.{leaf_table, entries}
 use Rattle.elimination.specs.Elimination.{row_table, tables, row_entries, entries_to, most_entries}
-use Rattle.elimination.specs.TableLaws.{leaf-full, leaf-sees}
-use Rattle.elimination.specs.RowLaws.{row-leaf}
-use Rattle.elimination.specs.CountLaws.{entries-step, entries-passed, leaf-entries}
+use Rattle.elimination.proofs.TableLaws.{leaf-full, leaf-sees}
+use Rattle.elimination.proofs.RowLaws.{row-leaf}
+use Rattle.elimination.proofs.CountLaws.{entries-step, entries-passed, leaf-entries}
 use Rattle.eliminate.specs.declared.Worked.{Worked}
 use Rattle.eliminate.specs.declared.Worked.TheVariants.{Table, Full}
 use Rattle.eliminate.specs.declared.Reached.{Reached}

@@ -9,7 +9,7 @@ use Rattle.basics.specs.Members.{mem, clash}
 use Rattle.rename.specs.Ascending.{Ascending}
 use Rattle.rename.specs.AscendingLaws.{ascending-not}
 use Rattle.state.specs.Highest.{put}
-use Rattle.state.specs.HighestLaws.{put_same, put_other, by-eq}
+use Rattle.state.proofs.HighestLaws.{put_same, put_other, by-eq}
 use Rattle.eliminate.specs.Masks.{env_of, place_of, decoded}
 
 -- every name has a word

@@ -38,12 +38,3 @@
 pub mod Tables
 pub mod Elimination
 pub mod Answer
--- laws
-pub mod NameLaws
-pub mod TableLaws
-pub mod AboveLaws
-pub mod RowLaws
-pub mod RootLaws
-pub mod CountLaws
-pub mod CaseLaws
-pub mod AnswerLaws

@@ -10,7 +10,7 @@ use lib.Seq.{take-add, drop-drop, take_all, ext_get_or, get_or-take, get_or-set_
 use lib.Dec.{eqb}
 use Rattle.basics.specs.Tests.{Flag, is_true, is_false, flag, and_left}
 use Rattle.state.specs.Lent.{fact_count, all_below, fact_words, most_facts, fact_row}
-use Rattle.state.specs.LentLaws.{some-made, some-none}
+use Rattle.state.proofs.LentLaws.{some-made, some-none}
 use Rattle.fact_index.specs.Inner.{bucket_at, indexed_count, Indexed, Asks}
 use Rattle.fact_index.specs.Index.{buckets}
 use Rattle.fact_index.specs.IndexLaws.{bucket-same, indexed-same, index-add}

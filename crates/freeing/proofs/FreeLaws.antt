@@ -14,7 +14,7 @@ use Rattle.basics.specs.Tests.{Cmp, below, equal, above, cmp, or-one, or-other}
 use Rattle.basics.specs.Members.{clash}
 use Rattle.label.specs.Limits.{first_parameter, parameter_count, first_variable, first_minimum, term_end}
 use Rattle.label.specs.Terms.{is_term}
-use Rattle.label.specs.LabelLaws.{low-term}
+use Rattle.label.proofs.LabelLaws.{low-term}
 use Rattle.label.specs.Inner.{map_of}
 use Rattle.label.specs.Renamings.{renamed, freeing}
 use Rattle.diagram.specs.Sizes.{result_words, space_words}
@@ -40,8 +40,8 @@ use Rattle.rename.specs.RenamedWords.{freed-words}
 use Rattle.regression.specs.declared.Freed.{Freed}
 use Rattle.regression.specs.declared.Freed.TheVariants.{Done, Refused}
 use Rattle.regression.specs.RegressCall.{any_occurs, freed_outcome, written_as, free_outcome, free_answer, free_result, free_own}
-use Rattle.regression.specs.RegressCallLaws.{any-quiet}
-use Rattle.regression.specs.FreeCallLaws.{free_own_lem, free-listing, free-buffer, free-range, free-refused, freed-refused}
+use Rattle.regression.proofs.RegressCallLaws.{any-quiet}
+use Rattle.regression.proofs.FreeCallLaws.{free_own_lem, free-listing, free-buffer, free-range, free-refused, freed-refused}
 use Rattle.freeing.specs.FreeTasks.{any_set, FreeTask, FreedWith}
 use Rattle.freeing.specs.MarkLaws.{used-any}
 

@@ -7,7 +7,7 @@ use Rattle.diagram.specs.Diagram.{Diagram}
 use Rattle.diagram.specs.Variables.{occurs}
 use Rattle.listing.specs.Used.{Used}
 use Rattle.regression.specs.RegressCall.{any_occurs}
-use Rattle.regression.specs.RegressCallLaws.{any_none, any-cons}
+use Rattle.regression.proofs.RegressCallLaws.{any_none, any-cons}
 use Rattle.freeing.specs.FreeTasks.{any_set}
 
 -- `any_set`

@@ -19,5 +19,3 @@
 
 -- definitions
 pub mod Ground
--- laws
-pub mod GroundLaws

@@ -17,9 +17,9 @@ use Rattle.label.specs.Inner.{is_label_under, map_of}
 use Rattle.label.specs.Labels.{equal_atom, equates, test_of}
 use Rattle.label.specs.Renamings.{placed, mapped, moved, renamed}
 use Rattle.label.specs.Callers.{ends_at, Places, Packable, TermMap, Mappable, Movable, Replaced}
-use Rattle.label.specs.LabelLaws.{used-term, unused-zero, each-end, ends-zero, zero-ends, places-below, below-places, place_of, predicate-of, place-fits, fits-list}
-use Rattle.label.specs.LabelLaws.{label-fits, label-ends, label-places}
-use Rattle.label.specs.RenamingLaws.{mapped-place}
+use Rattle.label.proofs.LabelLaws.{used-term, unused-zero, each-end, ends-zero, zero-ends, places-below, below-places, place_of, predicate-of, place-fits, fits-list}
+use Rattle.label.proofs.LabelLaws.{label-fits, label-ends, label-places}
+use Rattle.label.proofs.RenamingLaws.{mapped-place}
 use Rattle.label.specs.declared.Atom.{Atom}
 use Rattle.label.specs.declared.Label.{Label}
 use Rattle.label.specs.declared.Test.{Test}

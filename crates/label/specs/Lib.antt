@@ -63,7 +63,3 @@ pub mod Order
 pub mod Renamings
 pub mod Inner
 pub mod Callers
-pub mod LabelLaws
-pub mod ArityLaws
-pub mod OrderLaws
-pub mod RenamingLaws

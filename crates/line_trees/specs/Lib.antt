@@ -34,11 +34,3 @@
 pub mod TreeReading
 pub mod TreeReplies
 pub mod TextTrees
--- laws
-pub mod VariableLaws
-pub mod ResolvedLaws
-pub mod TreeReadLaws
-pub mod TreeHeadLaws
-pub mod TreeReplyLaws
-pub mod TextTreesLaws
-pub mod LineFeedLaws

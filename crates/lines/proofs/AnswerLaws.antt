@@ -7,7 +7,7 @@ use lib.ListN.{length, take}
 use Rattle.text.specs.declared.Kind.{Kind}
 use Rattle.text.specs.declared.Kind.TheVariants as K
 use Rattle.session.specs.Replies.{done, words_of}
-use Rattle.session_laws.specs.TableLaws.{done-bare}
+use Rattle.session_laws.proofs.TableLaws.{done-bare}
 use Rattle.memory.specs.declared.Numbers.{Numbers}
 use Rattle.memory.specs.declared.Said.{Said}
 use Rattle.memory.specs.Inner.{Ready, Answers}

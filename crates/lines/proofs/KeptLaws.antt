@@ -11,8 +11,8 @@ use Rattle.session.specs.Good.{GoodSession}
 use Rattle.memory.specs.declared.Numbers.{Numbers}
 use Rattle.memory.specs.Inner.{Kept}
 use Rattle.memory.specs.Memory.{Memory, session_of, Stored}
-use Rattle.session_laws.specs.FactLaws.{WholeRows}
-use Rattle.session_laws.specs.ReplyLaws.{reply-good}
+use Rattle.session_laws.proofs.FactLaws.{WholeRows}
+use Rattle.session_laws.proofs.ReplyLaws.{reply-good}
 
 live-whole : (s : List ℕ) (l : Live) → GoodLive s l → WholeRows (live_of s l).facts
 unfolding live_of

@@ -14,7 +14,7 @@ use Rattle.names.specs.Keys.{keys_at}
 use Rattle.session.specs.Session.{Session, opening, default_total, default_numerator, default_denominator}
 use Rattle.session.specs.Facts.{cleared}
 use Rattle.session.specs.Good.{GoodSession}
-use Rattle.session_laws.specs.OpeningLaws.{opening-good}
+use Rattle.session_laws.proofs.OpeningLaws.{opening-good}
 use Rattle.declare.specs.Tables.{names_of}
 use Rattle.facts.specs.Inner.{Cleared, Emptied}
 use Rattle.facts.specs.Words.{state_words, facts_base, live_of}

@@ -20,8 +20,8 @@ use Rattle.session.specs.Place.{rule_of}
 use Rattle.session.specs.Replies.{Reply, allowed, done, reply_to, reply, words_of}
 use Rattle.session.specs.Texts.{table_of}
 use Rattle.session.specs.Good.{GoodSession}
-use Rattle.session_laws.specs.CaseLaws.{reply-line}
-use Rattle.session_laws.specs.BlankLaws.{blank-leaves}
+use Rattle.session_laws.proofs.CaseLaws.{reply-line}
+use Rattle.session_laws.proofs.BlankLaws.{blank-leaves}
 use Rattle.memory.specs.declared.Numbers.{Numbers}
 use Rattle.memory.specs.declared.Said.{Said}
 use Rattle.memory.specs.Inner.{Ready, Shown, Kept, Replied}

@@ -13,8 +13,8 @@ use Rattle.basics.specs.Tests.{Flag, is_true, is_false, flag, Cmp, cmp, below, e
 use Rattle.basics.specs.Members.{mem}
 use Rattle.label.specs.Limits.{leaf_mark, term_end, most_places, predicate_count, first_variable, first_minimum}
 use Rattle.label.specs.Labels.{places_of, predicate_of, place_at, unpacked, is_label, terms_of}
-use Rattle.label.specs.LabelLaws.{label-fits, predicate-of, place_of, place_end}
-use Rattle.label.specs.ArityLaws.{arity-most, arity-words}
+use Rattle.label.proofs.LabelLaws.{label-fits, predicate-of, place_of, place_end}
+use Rattle.label.proofs.ArityLaws.{arity-most, arity-words}
 use Rattle.diagram.specs.Words.{label_at, row_count}
 use Rattle.diagram.specs.Listing.{diagram_of}
 use Rattle.diagram.specs.Validity.{Valid}

@@ -10,9 +10,9 @@ use borrow.Author.Tests.{not-true, not-false}
 use Rattle.basics.specs.Tests.{Cmp, cmp, below, equal, above}
 use Rattle.label.specs.Limits.{leaf_mark}
 use Rattle.label.specs.Labels.{is_label}
-use Rattle.label.specs.LabelLaws.{label-below}
+use Rattle.label.proofs.LabelLaws.{label-below}
 use Rattle.label.specs.Inner.{Compared}
-use Rattle.label.specs.OrderLaws.{compared-less, compared-not}
+use Rattle.label.proofs.OrderLaws.{compared-less, compared-not}
 use Rattle.table.specs.declared.Row.{Row}
 use Rattle.table.specs.declared.Found.{Found}
 use Rattle.table.specs.declared.Found.TheVariants.{At, Nothing}

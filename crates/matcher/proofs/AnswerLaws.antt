@@ -15,7 +15,7 @@ use Rattle.paths.specs.CodeLaws.{codes-are}
 use Rattle.cutting.specs.Match.{start, matches}
 use Rattle.cutting.specs.Cut.{covers}
 use Rattle.cutting.specs.Searchable.{Searchable, PathLabels}
-use Rattle.cutting.specs.CoverLaws.{searchable}
+use Rattle.cutting.proofs.CoverLaws.{searchable}
 use Rattle.paths.specs.Inner.{AllInRange, Entered, literals_in}
 use Rattle.paths.specs.Routes.{path_at}
 use Rattle.matcher.specs.Covering.{Target, Held, Covering}

@@ -20,9 +20,9 @@ use Rattle.paths.specs.Inner.{literals_in}
 use Rattle.cutting.specs.Match.{Partial, start, matches}
 use Rattle.cutting.specs.Cut.{covers}
 use Rattle.cutting.specs.Searchable.{Searchable}
-use Rattle.cutting.specs.MatchLaws.{in-terms, matches-sound, matches-order}
+use Rattle.cutting.proofs.MatchLaws.{in-terms, matches-sound, matches-order}
 use Rattle.cutting.specs.Searchable.{PathLabels}
-use Rattle.cutting.specs.CoverLaws.{searchable}
+use Rattle.cutting.proofs.CoverLaws.{searchable}
 use Rattle.matcher.specs.Stored.{Marks, Ready, PartPost}
 use Rattle.matcher.specs.Search.{segment, known, Replacing, Tabled, Setting, Inside, Unplaced, Placing}
 use Rattle.matcher.specs.Failure.{store_words, row_of, Remembers, is_found, is_weary, Solving, SolvePost, Decidable, Decided}

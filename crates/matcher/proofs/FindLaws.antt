@@ -16,7 +16,7 @@ use Rattle.label.specs.declared.Label.{Label}
 use Rattle.label.specs.declared.Test.{Test}
 use Rattle.label.specs.declared.Test.TheVariants.{Always, Is}
 use Rattle.paths.specs.Inner.{label_end}
-use Rattle.cutting.specs.MovedLaws.{equates-same, equates-less, equates-more}
+use Rattle.cutting.proofs.MovedLaws.{equates-same, equates-less, equates-more}
 use Rattle.matcher.specs.Search.{is_equality, all_of, all_known, Sorted, Finds, image_of, Images, packing, image_label, Met, truth, other}
 use Rattle.matcher.specs.Search.{equal as matched}
 use Rattle.matcher.proofs.AlongLaws.{all_more, all-not, all-at}

@@ -16,10 +16,10 @@ use Rattle.label.specs.Renamings.{moved}
 use Rattle.paths.specs.Paths.{Literal, terms_in}
 use Rattle.cutting.specs.Match.{start, matches}
 use Rattle.cutting.specs.Cut.{Matched, plain, found}
-use Rattle.cutting.specs.MovedLaws.{asks, moved-asks}
+use Rattle.cutting.proofs.MovedLaws.{asks, moved-asks}
 use Rattle.cutting.specs.Searchable.{Searchable}
-use Rattle.cutting.specs.MatchLaws.{Solves, matches-sound, matches-complete, in-terms}
-use Rattle.cutting.specs.CoverLaws.{start-other}
+use Rattle.cutting.proofs.MatchLaws.{Solves, matches-sound, matches-complete, in-terms}
+use Rattle.cutting.proofs.CoverLaws.{start-other}
 use Rattle.matcher.proofs.CoversLaws.{of-terms}
 
 map_same : (σ υ : ℕ → ℕ) (ts : List ℕ) → ((t : ℕ) → Memᴰ t ts → σ t ≡ υ t) → map σ ts ≡ map υ ts

@@ -10,7 +10,7 @@ use lib.Seq.{get_or-set_same, get_or-set_other, drop-set-lt, get_or-drop}
 use Rattle.basics.specs.Tests.{Cmp, cmp, below, equal, above}
 use Rattle.label.specs.Limits.{first_minimum, first_variable, most_places}
 use Rattle.label.specs.Labels.{predicate_of, place_at}
-use Rattle.label.specs.ArityLaws.{arity-most}
+use Rattle.label.proofs.ArityLaws.{arity-most}
 use Rattle.label.proofs.CodeLaws.{under_all}
 use Rattle.listing.specs.Used.{marked}
 use Rattle.paths.specs.Inner.{InRange}

@@ -9,15 +9,15 @@ use lib.Dec.{eqb}
 use Rattle.basics.specs.Members.{clash}
 use Rattle.label.specs.Limits.{first_minimum, term_base, most_places}
 use Rattle.label.specs.Labels.{are_arities, is_label, predicate_of, atom_from, unpacked, terms_of, packed, equates, test_of}
-use Rattle.label.specs.ArityLaws.{terms-length, arity-two}
+use Rattle.label.proofs.ArityLaws.{terms-length, arity-two}
 use Rattle.label.specs.Renamings.{moved}
 use Rattle.label.specs.declared.Test.{Test}
 use Rattle.label.specs.declared.Test.TheVariants.{Always, Is}
 use Rattle.paths.specs.Paths.{Literal}
 use Rattle.paths.specs.Inner.{literal_at, literals_in}
 use Rattle.cutting.specs.Cut.{Matched, plain, found}
-use Rattle.cutting.specs.MovedLaws.{asks, moved-asks, asks-other, Two, two, length_two}
-use Rattle.cutting.specs.MatchLaws.{lit}
+use Rattle.cutting.proofs.MovedLaws.{asks, moved-asks, asks-other, Two, two, length_two}
+use Rattle.cutting.proofs.MatchLaws.{lit}
 use Rattle.matcher.specs.Search.{is_equality, into_at, Setting, Met, truth, other, Finds, image_of, packing, image_label}
 use Rattle.matcher.specs.Search.{equal as matched}
 use Rattle.matcher.proofs.LiteralLaws.{into-mem, mem-into, number_same, predicate-zero, predicate-more}

@@ -13,7 +13,7 @@ use Rattle.label.specs.Labels.{unpacked, terms_of}
 use Rattle.paths.specs.Paths.{Literal}
 use Rattle.cutting.specs.Match.{start, matches}
 use Rattle.cutting.specs.Searchable.{Searchable}
-use Rattle.cutting.specs.MatchLaws.{in-terms, matches-order}
+use Rattle.cutting.proofs.MatchLaws.{in-terms, matches-order}
 use Rattle.paths.specs.Inner.{InRange, AllInRange, literal_at, literals_in}
 use Rattle.matcher.specs.Search.{Setting}
 use Rattle.matcher.specs.Stored.{Ready, PartPost}

@@ -18,7 +18,7 @@ use Rattle.label.specs.Labels.{is_label, place_at, terms_of, unpacked}
 use Rattle.diagram.specs.RowLaws.{same_tests}
 use Rattle.paths.specs.Paths.{Literal, terms_in}
 use Rattle.cutting.specs.Match.{Partial, assign, agree, bind_term, then_bind, bind_terms, targets, some_of, go_on, matches}
-use Rattle.cutting.specs.MatchLaws.{some_in, some_out, target-image, target-complete, in-terms}
+use Rattle.cutting.proofs.MatchLaws.{some_in, some_out, target-image, target-complete, in-terms}
 use Rattle.paths.specs.Inner.{InRange, AllInRange, literal_at, literals_in}
 use Rattle.matcher.specs.Search.{places_in, turn, way_place, way_places, is_nothing, term_at, segment, known, Slots, Replacing, way_at, way_count, all_known, Images}
 use Rattle.matcher.specs.Search.{Met, Sorted, Tabled, Setting, Inside}

@@ -18,7 +18,7 @@ use Rattle.paths.specs.Paths.{Literal}
 use Rattle.paths.specs.Inner.{literal_at, literals_in}
 use Rattle.cutting.specs.Match.{start, ways_among, plain_ways, targets, matches}
 use Rattle.cutting.specs.Searchable.{Searchable}
-use Rattle.cutting.specs.MatchLaws.{among-out, some_out}
+use Rattle.cutting.proofs.MatchLaws.{among-out, some_out}
 use Rattle.matcher.specs.Search.{is_equality, alike}
 use Rattle.matcher.specs.Parts.{NoWay, kind_of, kind_count, Kinds, WayPost, WaysPost}
 use Rattle.matcher.proofs.WayLaws.{untaken}

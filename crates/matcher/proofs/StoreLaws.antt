@@ -17,9 +17,9 @@ use Rattle.diagram.specs.ListingValid.{listing-is-valid}
 use Rattle.diagram.specs.DiagramOfListing.{valid-rows, diagram-is}
 use Rattle.diagram.specs.RowDiagrams.{tree-from, tree-fine}
 use Rattle.paths.specs.Paths.{Literal, Path, paths, literals, terms_in}
-use Rattle.cutting.specs.MatchLaws.{in-terms}
+use Rattle.cutting.proofs.MatchLaws.{in-terms}
 use Rattle.cutting.specs.Searchable.{PathLabels}
-use Rattle.cutting.specs.CoverLaws.{path-labels, path-plain}
+use Rattle.cutting.proofs.CoverLaws.{path-labels, path-plain}
 use Rattle.paths.specs.CodeLaws.{half, codes-are}
 use Rattle.paths.specs.PathLaws.{range-terms, paths-branch}
 use Rattle.paths.specs.Inner.{bit, code_of, codes, At, Entered, InRange, literals_in}

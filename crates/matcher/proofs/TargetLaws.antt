@@ -14,12 +14,12 @@ use Rattle.basics.specs.Tests.{and_left, and_right, Flag, is_true, is_false, fla
 use Rattle.basics.specs.Members.{clash}
 use Rattle.label.specs.Limits.{first_minimum, most_places}
 use Rattle.label.specs.Labels.{are_arities, is_label, predicate_of, unpacked, terms_of}
-use Rattle.label.specs.ArityLaws.{terms-length, arity-two}
+use Rattle.label.proofs.ArityLaws.{terms-length, arity-two}
 use Rattle.paths.specs.Paths.{Literal}
 use Rattle.paths.specs.Inner.{literal_at, literals_in}
 use Rattle.cutting.specs.Match.{Partial, bind_terms, turned, ways, ways_among, plain_ways, targets}
-use Rattle.cutting.specs.MovedLaws.{EqualityTerms, equality-terms}
-use Rattle.cutting.specs.MatchLaws.{lit, among_in, among-out, twice_in, twice-out}
+use Rattle.cutting.proofs.MovedLaws.{EqualityTerms, equality-terms}
+use Rattle.cutting.proofs.MatchLaws.{lit, among_in, among-out, twice_in, twice-out}
 use Rattle.matcher.specs.Search.{along, places_in, is_equality, turn, way_place, way_places, is_nothing, alike, into_count, into_at, plain_way, equal_way, way_at, way_count, Setting}
 use Rattle.matcher.specs.declared.Way.{Way}
 use Rattle.matcher.specs.declared.Way.TheVariants.{Straight, Turned, Twice, Nothing}

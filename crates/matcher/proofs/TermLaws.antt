@@ -11,8 +11,8 @@ use borrow.Author.Tests.{le-ltb, eqb-true}
 use Rattle.basics.specs.Tests.{Cmp, cmp, below, equal, above}
 use Rattle.label.specs.Limits.{most_places}
 use Rattle.label.specs.Labels.{are_arities, is_label, predicate_of, place_at, unpacked, places_of, place_fits, terms_of}
-use Rattle.label.specs.LabelLaws.{place_of, place-fits}
-use Rattle.label.specs.ArityLaws.{terms-length, arity-most}
+use Rattle.label.proofs.LabelLaws.{place_of, place-fits}
+use Rattle.label.proofs.ArityLaws.{terms-length, arity-most}
 use Rattle.cutting.specs.Match.{Partial, bind_terms}
 use Rattle.matcher.specs.Search.{along, places_in}
 use Rattle.matcher.proofs.AlongLaws.{along-length, along-at, along-of, along-list, bind-unused}

@@ -50,12 +50,3 @@ pub mod Bellman
 pub mod Backup
 pub mod Runs
 pub mod Example
--- laws
-pub mod CallLaws
-pub mod BackupLaws
-pub mod CutLaws
-pub mod RunLaws
-pub mod StepLaws
-pub mod ValuedLaws
-pub mod ExampleLaws
-pub mod Table

@@ -13,7 +13,7 @@ use Rattle.basics.specs.Tests.{and_left, and_right, Flag, is_true, is_false, fla
 use Rattle.label.specs.Limits.{predicate_count}
 use Rattle.diagram.specs.Diagram.{Diagram, leaf}
 use Rattle.diagram.specs.Listing.{diagram_of}
-use Rattle.state.specs.ValueLaws.{by-low}
+use Rattle.state.proofs.ValueLaws.{by-low}
 use Rattle.mdp.specs.Model.{Variant, Action}
 use Rattle.names.specs.Many.{many}
 use Rattle.names.specs.ManyLaws.{length-many, get_d-many}

@@ -45,15 +45,3 @@ pub mod Min
 pub mod Number
 pub mod Operations
 pub mod Inner
--- laws
-pub mod MinLaws
-pub mod ReachLaws
-pub mod NumberLaws
-pub mod OccurLaws
-pub mod PlainLaws
-pub mod ApartLaws
-pub mod RenamedLaws
-pub mod ClosingLaws
-pub mod FreedLaws
-pub mod NextLaws
-pub mod Table

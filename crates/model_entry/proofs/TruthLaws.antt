@@ -16,7 +16,7 @@ use Rattle.names.specs.Many.{many}
 use Rattle.names.specs.ManyLaws.{many-ext}
 use Rattle.diagram.specs.Diagram.{Diagram}
 use Rattle.diagram.specs.Listing.{diagram_of}
-use Rattle.state.specs.ValueLaws.{by-low}
+use Rattle.state.proofs.ValueLaws.{by-low}
 use Rattle.regression.specs.Regression.{Truths}
 use Rattle.regression.specs.RegressCall.{truths_of}
 use Rattle.mdp.specs.Model.{Variant, Action, most_variants}

@@ -8,7 +8,7 @@ use lib.Seq.{get_or-set_same, get_or-set_other, paste}
 use Rattle.names.specs.Many.{many}
 use Rattle.names.specs.ManyLaws.{many-ext}
 use Rattle.diagram.specs.Listing.{diagram_of}
-use Rattle.state.specs.ValueLaws.{by-low}
+use Rattle.state.proofs.ValueLaws.{by-low}
 use Rattle.mdp.specs.Model.{Variant, Action, most_variants}
 use Rattle.session.specs.Session.{with_actions}
 use Rattle.model.specs.declared.Head.{Head}

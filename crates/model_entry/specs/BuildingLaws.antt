@@ -9,9 +9,9 @@ use Rattle.diagram.specs.Diagram.{leaf}
 use Rattle.diagram.specs.Words.{is_listing}
 use Rattle.diagram.specs.Listing.{tree_at, diagram_of, Good}
 use Rattle.diagram.specs.Listings.{good-is-listing}
-use Rattle.state.specs.ValueLaws.{by-low}
+use Rattle.state.proofs.ValueLaws.{by-low}
 use Rattle.regression.specs.RegressCall.{truth_count, truth_words, are_listings}
-use Rattle.regression.specs.RegressCallLaws.{listings-none, listings-cons, truths-some}
+use Rattle.regression.proofs.RegressCallLaws.{listings-none, listings-cons, truths-some}
 use Rattle.mdp.specs.Model.{Every, GoodVariant, GoodAction, GoodModel}
 use Rattle.model.specs.declared.Head.{Head}
 use Rattle.model.specs.Inner.{LaidVariant, LaidAction, Laid}

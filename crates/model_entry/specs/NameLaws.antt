@@ -8,7 +8,7 @@ use Rattle.names.specs.Layout.{variants_at}
 use Rattle.names.specs.Many.{many}
 use Rattle.names.specs.ManyLaws.{length-many, get_d-many}
 use Rattle.state.specs.Max.{sum_of}
-use Rattle.state.specs.ValueLaws.{by-low}
+use Rattle.state.proofs.ValueLaws.{by-low}
 use Rattle.mdp.specs.Model.{Action, most_variants}
 use Rattle.model.specs.declared.Head.{Head}
 use Rattle.model.specs.Layout.{variant_place, variant_at, variants_of, action_at}

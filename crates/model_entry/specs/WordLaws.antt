@@ -10,10 +10,10 @@ use Rattle.names.specs.Many.{many}
 use Rattle.names.specs.ManyLaws.{many-ext}
 use Rattle.diagram.specs.Diagram.{Diagram}
 use Rattle.diagram.specs.Listing.{diagram_of}
-use Rattle.state.specs.ValueLaws.{by-low}
+use Rattle.state.proofs.ValueLaws.{by-low}
 use Rattle.regression.specs.Regression.{Truths}
 use Rattle.regression.specs.RegressCall.{truths_of}
-use Rattle.regression.specs.RegressCallLaws.{truths-none}
+use Rattle.regression.proofs.RegressCallLaws.{truths-none}
 use Rattle.mdp.specs.Model.{Variant, Action}
 use Rattle.model.specs.Layout.{part, span_words, variant_words, action_words, variant_place, weight_words, spans_at, variant_at, variants_of, action_at}
 use Rattle.model_entry.specs.Building.{Inside, truth_place, SpannedVariant, SpannedAction, Canonical, ListedVariant}

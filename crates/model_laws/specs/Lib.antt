@@ -26,17 +26,3 @@
 
 pub mod ModelRows
 pub mod Adding
-pub mod SessionLaws
-pub mod ActionLaws
-pub mod DeclaringLaws
-pub mod ArityLaws
-pub mod GrowthLaws
-pub mod PredicateLaws
-pub mod DrawnLaws
-pub mod ReadLaws
-pub mod RewardLaws
-pub mod VariantLaws
-pub mod HeadLaws
-pub mod BecomesLaws
-pub mod RowLaws
-pub mod WeightLaws

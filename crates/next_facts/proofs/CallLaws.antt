@@ -11,7 +11,7 @@ use borrow.Author.Tests.{eqb-false, not-true}
 use Rattle.basics.specs.Tests.{and_right, Cmp, below, equal, above, cmp}
 use Rattle.label.specs.Limits.{first_variable, term_end, most_places, predicate_count, leaf_mark, term_base, equality}
 use Rattle.label.specs.Labels.{packed, atom_from}
-use Rattle.label.specs.ArityLaws.{arity-most, arity-words}
+use Rattle.label.proofs.ArityLaws.{arity-most, arity-words}
 use Rattle.label.specs.Callers.{Packable}
 use Rattle.label.specs.declared.Atom.{Atom}
 use Rattle.diagram.specs.Sizes.{most_rows}
@@ -20,7 +20,7 @@ use Rattle.diagram.specs.WordLaws.{get_d_map, get_d-up_to, length-up_to}
 use Rattle.diagram.specs.ListingValid.{listing-is-valid}
 use Rattle.diagram.specs.Validity.{Valid}
 use Rattle.regression.specs.RegressCall.{truth_words, are_listings}
-use Rattle.regression.specs.RegressCallLaws.{listings-at}
+use Rattle.regression.proofs.RegressCallLaws.{listings-at}
 use Rattle.truths.specs.TruthChecks.{has_truth}
 use Rattle.model.specs.Layout.{spans_at, variant_words}
 use Rattle.state.specs.Lent.{fact_count}

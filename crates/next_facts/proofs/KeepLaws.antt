@@ -13,7 +13,7 @@ use Rattle.basics.specs.Tests.{Cmp, below, equal, above, cmp}
 use Rattle.basics.specs.Members.{clash}
 use Rattle.label.specs.Limits.{most_places}
 use Rattle.label.specs.Labels.{are_arities}
-use Rattle.label.specs.ArityLaws.{arity-most}
+use Rattle.label.proofs.ArityLaws.{arity-most}
 use Rattle.state.specs.Lent.{fact_words, fact_count, predicate_at}
 use Rattle.reduction.specs.Claims.{Lower, differs, onwards}
 use Rattle.state.specs.Lent.{fact_row}

@@ -10,8 +10,8 @@ use lib.Dec.{eqb}
 use Rattle.basics.specs.Tests.{Cmp, below, equal, above, cmp}
 use Rattle.label.specs.Limits.{leaf_mark, predicate_count}
 use Rattle.label.specs.Labels.{predicate_of, unpacked}
-use Rattle.label.specs.LabelLaws.{label-fits, place_end}
-use Rattle.label.specs.ArityLaws.{arity-most, arity-words}
+use Rattle.label.proofs.LabelLaws.{label-fits, place_end}
+use Rattle.label.proofs.ArityLaws.{arity-most, arity-words}
 use Rattle.diagram.specs.Words.{label_at, high_at, low_at, row_count}
 use Rattle.diagram.specs.Validity.{BranchRow, tree}
 use Rattle.diagram.specs.RowDiagrams.{branch_row}

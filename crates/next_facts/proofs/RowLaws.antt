@@ -12,7 +12,7 @@ use Rattle.basics.specs.Members.{clash}
 use Rattle.label.specs.Limits.{equality, most_places}
 use Rattle.label.specs.Labels.{predicate_of, place_at}
 use Rattle.state.specs.Lent.{fact_words, fact_count, predicate_at, some_below}
-use Rattle.state.specs.LentLaws.{some-made, some-none}
+use Rattle.state.proofs.LentLaws.{some-made, some-none}
 use Rattle.next_facts.specs.Reach.{free, word_of, is_open, differs, fits, may_hold, pick_leaf, Placed}
 
 -- `differs`

@@ -14,7 +14,7 @@ use borrow.Author.Tests.{eqb-true, eq-eqb, ltb-true}
 use Rattle.basics.specs.Tests.{and_left, and_right}
 use Rattle.label.specs.Limits.{most_places, predicate_count}
 use Rattle.label.specs.Labels.{are_arities}
-use Rattle.label.specs.ArityLaws.{arity-most}
+use Rattle.label.proofs.ArityLaws.{arity-most}
 use Rattle.diagram.specs.Words.{up_to}
 use Rattle.diagram.specs.WordLaws.{lists-equal, equal-lists, below-every}
 use Rattle.diagram.specs.Listing.{diagram_of}
@@ -22,17 +22,17 @@ use Rattle.state.specs.State.{State, Good}
 use Rattle.state.specs.Max.{Tuple, none, more}
 use Rattle.state.specs.Highest.{Bound}
 use Rattle.state.specs.Lent.{fact_words, fact_count, predicate_at, objects_at, says_fact, said_by, state_of, all_below, names_below, constants_below, is_state}
-use Rattle.state.specs.LentLaws.{objects-length, some-made, some-found}
-use Rattle.elimination.specs.AnswerLaws.{lent-good}
+use Rattle.state.proofs.LentLaws.{objects-length, some-made, some-found}
+use Rattle.elimination.proofs.AnswerLaws.{lent-good}
 use Rattle.regression.specs.Result.{AtMost}
 use Rattle.state.specs.Max.{tuples}
 use Rattle.state.specs.Max.{those}
 use Rattle.state.specs.Max.{gather}
 use Rattle.reduction.specs.Inner.{Sorted}
 use Rattle.reduction.specs.Claims.{Lower, differs, onwards}
-use Rattle.reduction.specs.ListLaws.{gather-in, in-gather, those-in, in-those, up_to-in, in-up_to}
-use Rattle.reduction.specs.CombinationLaws.{tuples-in, in-tuples}
-use Rattle.reduction.specs.OrderLaws.{sorted-append, tuples-order}
+use Rattle.reduction.proofs.ListLaws.{gather-in, in-gather, those-in, in-those, up_to-in, in-up_to}
+use Rattle.reduction.proofs.CombinationLaws.{tuples-in, in-tuples}
+use Rattle.reduction.proofs.OrderLaws.{sorted-append, tuples-order}
 use Rattle.state.specs.Lent.{fact_row}
 use Rattle.next_facts.specs.Filling.{objects_in, own_words, rows_by}
 use Rattle.next_facts.specs.FillingLaws.{gather_append}

@@ -13,7 +13,7 @@ use Rattle.std.proofs.Math.Dec.{eqb}
 use borrow.Author.Tests.{eqb-true, eqb-false, ne_eqb, not-true, not-false, lt-ltb, le-ltb, le-leb, lt-leb}
 use Rattle.basics.specs.Tests.{Flag, is_true, is_false, flag, and_right, Cmp, below, equal, above, cmp}
 use Rattle.label.specs.Limits.{equality, predicate_count}
-use Rattle.label.specs.ArityLaws.{arity-most}
+use Rattle.label.proofs.ArityLaws.{arity-most}
 use Rattle.diagram.specs.Diagram.{Diagram}
 use Rattle.diagram.specs.Words.{up_to}
 use Rattle.diagram.specs.Listing.{diagram_of}
@@ -24,17 +24,17 @@ use Rattle.state.specs.Next.{inner, fact_after, next}
 use Rattle.state.specs.Highest.{Bound}
 use Rattle.state.specs.Lent.{fact_count, state_of, most_facts, fact_row}
 use Rattle.state.specs.Max.{gather, tuples}
-use Rattle.elimination.specs.AnswerLaws.{lent-good}
+use Rattle.elimination.proofs.AnswerLaws.{lent-good}
 use Rattle.regression.specs.Result.{AtMost}
 use Rattle.regression.specs.RegressCall.{truth_count, truth_words}
-use Rattle.regression.specs.RegressCallLaws.{truths-none, truths-some, listings-at}
-use Rattle.reduction.specs.ListLaws.{in-up_to}
-use Rattle.reduction.specs.CombinationLaws.{in-tuples}
+use Rattle.regression.proofs.RegressCallLaws.{truths-none, truths-some, listings-at}
+use Rattle.reduction.proofs.ListLaws.{in-up_to}
+use Rattle.reduction.proofs.CombinationLaws.{in-tuples}
 use Rattle.mdp.specs.Bellman.{state_after}
 use Rattle.truths.specs.TruthChecks.{has_truth}
 use Rattle.model.specs.Layout.{spans_at, variant_at}
 use Rattle.replay.specs.Replay.{rows_at, fact_rows, facts_of}
-use Rattle.replay.specs.FactLaws.{facts-count}
+use Rattle.replay.proofs.FactLaws.{facts-count}
 use Rattle.next_facts.specs.Reach.{free}
 use Rattle.next_facts.specs.declared.Facts.{Facts}
 use Rattle.next_facts.specs.declared.Facts.TheVariants.{Rows, Many}

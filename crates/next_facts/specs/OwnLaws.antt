@@ -12,8 +12,8 @@ use Rattle.basics.specs.Tests.{Cmp, below, equal, above, cmp}
 use Rattle.label.specs.Limits.{first_variable, equality, most_places, predicate_count, term_base}
 use Rattle.label.specs.Terms.{is_constant, is_parameter, is_variable, is_term}
 use Rattle.label.specs.Labels.{are_arities, is_label, in_order, unpacked, predicate_of, atom_from, place_in, place_fits, terms_of}
-use Rattle.label.specs.LabelLaws.{each-place, place-from, fits-atom, label-packed, unpacked-packed, predicate-of}
-use Rattle.label.specs.ArityLaws.{arity-most, atom-terms, from_places}
+use Rattle.label.proofs.LabelLaws.{each-place, place-from, fits-atom, label-packed, unpacked-packed, predicate-of}
+use Rattle.label.proofs.ArityLaws.{arity-most, atom-terms, from_places}
 use Rattle.label.specs.Callers.{Places}
 use Rattle.diagram.specs.Diagram.{Diagram, leaf, branch, same, eval, relabel}
 use Rattle.diagram.specs.Rows.{onto, rows}
@@ -26,7 +26,7 @@ use Rattle.paths.specs.PathLaws.{mem-unmap}
 use Rattle.state.specs.State.{truth, holds, atom_of, meaning, value}
 use Rattle.state.specs.Next.{inner}
 use Rattle.state.specs.Lent.{said_by, state_of}
-use Rattle.reduction.specs.ListLaws.{in-up_to}
+use Rattle.reduction.proofs.ListLaws.{in-up_to}
 use Rattle.next_facts.specs.Filling.{own_terms, own_label, own_words}
 use Rattle.next_facts.specs.UnderLaws.{inner-high}
 

@@ -13,16 +13,16 @@ use Rattle.basics.specs.Tests.{Flag, is_true, is_false, flag, and_left, and_righ
 use Rattle.basics.specs.Members.{clash}
 use Rattle.label.specs.Limits.{equality, equality_arity, term_end, most_places}
 use Rattle.label.specs.Labels.{are_arities, is_label, predicate_of, place_at, unpacked, places_of, terms_of}
-use Rattle.label.specs.LabelLaws.{place_of, place_end}
-use Rattle.label.specs.ArityLaws.{arity-most, arity-two, terms-length}
+use Rattle.label.proofs.LabelLaws.{place_of, place_end}
+use Rattle.label.proofs.ArityLaws.{arity-most, arity-two, terms-length}
 use Rattle.diagram.specs.Diagram.{Diagram, leaf, branch, eval}
 use Rattle.diagram.specs.WordLaws.{get_d_map, lists-equal, equal-lists}
 use Rattle.diagram.specs.RowLaws.{same_tests}
 use Rattle.diagram.specs.Listing.{Fine}
 use Rattle.state.specs.State.{State, equated, truth, holds, atom_of, meaning, value}
 use Rattle.state.specs.Lent.{fact_words, fact_count, predicate_at, objects_at, says_fact, some_below, said_by, state_of}
-use Rattle.state.specs.LentLaws.{objects-length, object-at, some-made, some-found, some-none, some_same}
-use Rattle.regression.specs.ResultLaws.{value-meaning}
+use Rattle.state.proofs.LentLaws.{objects-length, object-at, some-made, some-found, some-none, some_same}
+use Rattle.regression.proofs.ResultLaws.{value-meaning}
 use Rattle.next_facts.specs.Reach.{free, word_of, is_open, differs, fits, may_hold, may_fail, pick_leaf, reaches, reach_in, arity_of}
 
 -- ===== Open edges =====

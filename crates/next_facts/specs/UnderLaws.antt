@@ -22,14 +22,14 @@ use Rattle.state.specs.State.{Good, meaning, value, low, fixed}
 use Rattle.state.specs.Next.{inner}
 use Rattle.state.specs.Max.{Tuple, none, more, gather, those, tuples}
 use Rattle.state.specs.Highest.{Bound}
-use Rattle.state.specs.HighestLaws.{start_fits}
+use Rattle.state.proofs.HighestLaws.{start_fits}
 use Rattle.state.specs.Lent.{state_of, fact_row}
-use Rattle.state.specs.ValueLaws.{low-lt, low-ge, by-low}
+use Rattle.state.proofs.ValueLaws.{low-lt, low-ge, by-low}
 use Rattle.regression.specs.Result.{AtMost}
-use Rattle.regression.specs.StepLaws.{eval-most}
-use Rattle.regression.specs.ResultLaws.{value-meaning}
-use Rattle.reduction.specs.ListLaws.{in-up_to}
-use Rattle.reduction.specs.CombinationLaws.{in-tuples}
+use Rattle.regression.proofs.StepLaws.{eval-most}
+use Rattle.regression.proofs.ResultLaws.{value-meaning}
+use Rattle.reduction.proofs.ListLaws.{in-up_to}
+use Rattle.reduction.proofs.CombinationLaws.{in-tuples}
 use Rattle.next_facts.specs.Reach.{free, reach_in, reached}
 use Rattle.next_facts.specs.ReachLaws.{reach-sound, reach-exact}
 use Rattle.next_facts.specs.Filling.{first_word, first_env, objects_in, under}

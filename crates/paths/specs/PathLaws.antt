@@ -10,8 +10,8 @@ use Rattle.basics.specs.Tests.{Flag, is_true, is_false, flag, Cmp, cmp, below, e
 use Rattle.basics.specs.Members.{mem}
 use Rattle.label.specs.Limits.{term_end, predicate_count, predicate_weight}
 use Rattle.label.specs.Labels.{is_label, predicate_of, unpacked, terms_of}
-use Rattle.label.specs.LabelLaws.{place_of, predicate-of, label-fits, place_end}
-use Rattle.label.specs.ArityLaws.{terms-are}
+use Rattle.label.proofs.LabelLaws.{place_of, predicate-of, label-fits, place_end}
+use Rattle.label.proofs.ArityLaws.{terms-are}
 use Rattle.diagram.specs.Diagram.{Diagram, leaf, branch, same}
 use Rattle.diagram.specs.DiagramLaws.{onto-old, onto-leaf, onto-branch}
 use Rattle.diagram.specs.Rows.{onto, rows}

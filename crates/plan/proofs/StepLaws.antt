@@ -10,7 +10,7 @@ use lib.Dec.{eqb}
 use borrow.Author.Tests.{eq-eqb, ne_eqb}
 use lib.Seq.{get_or-set_same, get_or-set_other}
 use Rattle.label.specs.Inner.{Compared}
-use Rattle.label.specs.OrderLaws.{compared-less, compared-not}
+use Rattle.label.proofs.OrderLaws.{compared-less, compared-not}
 use Rattle.label.specs.Limits.{leaf_mark}
 use Rattle.table.specs.Chains.{prev, Walking, Cleared}
 use Rattle.table.specs.ChainLaws.{test, prev-same, prev-other, prev-none}

@@ -20,8 +20,8 @@ use Rattle.regression.specs.RegressCall.{written_as, freed_as, free_own, freed_o
 use Rattle.write.specs.Renaming.{listed_in}
 use Rattle.apart.specs.Results.{Closable}
 use Rattle.freeing.specs.FreeTasks.{FreeTask, FreedWith}
-use Rattle.mdp.specs.StepLaws.{own-within}
-use Rattle.mdp.specs.CallLaws.{freed-to}
+use Rattle.mdp.proofs.StepLaws.{own-within}
+use Rattle.mdp.proofs.CallLaws.{freed-to}
 use Rattle.steps.specs.declared.Step.{Step}
 use Rattle.steps.specs.declared.Step.TheVariants.{Rows}
 use Rattle.steps.specs.Steps.{Result, Given}

@@ -29,12 +29,12 @@ use Rattle.cutting.specs.declared.Cut.{Cut}
 use Rattle.cutting.specs.declared.Cut.TheVariants.{Done as CutDone, Refused as NotCut}
 use Rattle.paths.specs.Paths.{paths, most_paths}
 use Rattle.cutting.specs.Cut.{Choice, goes, stays, reduced, cut_at, cut_diagram, edge_of, is_true_edge, choice, chosen_answer, diagram_answer, written, answer_buffer}
-use Rattle.cutting.specs.ReduceLaws.{cut-good}
+use Rattle.cutting.proofs.ReduceLaws.{cut-good}
 use Rattle.cut.specs.Calls.{Cuttable}
 use Rattle.mdp.specs.Model.{Model, scale}
 use Rattle.mdp.specs.Backup.{backup}
 use Rattle.mdp.specs.Runs.{Held as Value, leaves, cut_outcome, begin}
-use Rattle.mdp.specs.StepLaws.{cut-done}
+use Rattle.mdp.proofs.StepLaws.{cut-done}
 use Rattle.model.specs.declared.Head.{Head}
 use Rattle.model.specs.Inner.{Laid}
 use Rattle.model.specs.Layout.{reward_words, model_of}

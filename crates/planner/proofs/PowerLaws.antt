@@ -19,7 +19,7 @@ use Rattle.diagram.specs.Listing.{Good}
 use Rattle.regression.specs.RegressCall.{written_as}
 use Rattle.mdp.specs.Model.{Model, scale}
 use Rattle.mdp.specs.Backup.{highest_scale, most_steps, scale_ends, backup, row_of_calls}
-use Rattle.mdp.specs.StepLaws.{backup-ends, backup-row, on-scale}
+use Rattle.mdp.proofs.StepLaws.{backup-ends, backup-row, on-scale}
 use Rattle.model.specs.declared.Head.{Head}
 use Rattle.model.specs.Inner.{Laid}
 use Rattle.model.specs.Layout.{model_of}

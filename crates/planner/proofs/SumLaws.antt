@@ -15,8 +15,8 @@ use Rattle.apply.specs.declared.Operation.TheVariants.{Max}
 use Rattle.apply.specs.declared.Names.TheVariants.{Shared}
 use Rattle.mdp.specs.Model.{Variant, Action, Every, GoodVariant, GoodAction}
 use Rattle.mdp.specs.Backup.{combined, variants_sum, actions_best}
-use Rattle.mdp.specs.StepLaws.{sum-none, best_none}
-use Rattle.mdp.specs.BackupLaws.{truths-good}
+use Rattle.mdp.proofs.StepLaws.{sum-none, best_none}
+use Rattle.mdp.proofs.BackupLaws.{truths-good}
 use Rattle.model.specs.declared.Head.{Head}
 use Rattle.model.specs.Inner.{Laid}
 use Rattle.model.specs.Layout.{action_words, variant_place, variant_at, variants_of, action_at, model_of}

@@ -18,7 +18,7 @@ use Rattle.regression.specs.declared.Regressed.{Regressed}
 use Rattle.regression.specs.declared.Regressed.TheVariants.{Done as RegressedDone, Refused as NotRegressed}
 use Rattle.regression.specs.Regression.{Truths, regressed}
 use Rattle.regression.specs.RegressCall.{truths_of, regressed_as, written_as}
-use Rattle.regression.specs.TellsLaws.{regressed-tells}
+use Rattle.regression.proofs.TellsLaws.{regressed-tells}
 use Rattle.mdp.specs.Model.{Variant}
 use Rattle.mdp.specs.Backup.{combined}
 use Rattle.regress.specs.Regressing.{Regressable}

@@ -13,17 +13,17 @@ use Rattle.diagram.specs.Variables.{closed}
 use Rattle.apply.specs.declared.Operation.TheVariants.{Sum, Product, Max}
 use Rattle.apply.specs.declared.Names.TheVariants.{Apart, Shared}
 use Rattle.state.specs.State.{meaning}
-use Rattle.state.specs.ValueLaws.{by-low}
+use Rattle.state.proofs.ValueLaws.{by-low}
 use Rattle.regression.specs.Regression.{regressed}
 use Rattle.regression.specs.Parameters.{Within}
-use Rattle.regression.specs.TellsLaws.{regressed-tells}
+use Rattle.regression.proofs.TellsLaws.{regressed-tells}
 use Rattle.regression.specs.RegressCall.{freed_outcome}
 use Rattle.names.specs.Many.{many}
 use Rattle.mdp.specs.Model.{Variant, Action, Every, GoodVariant, GoodAction}
 use Rattle.mdp.specs.Backup.{combined, variants_sum, actions_best}
-use Rattle.mdp.specs.StepLaws.{sum-none, sum-next, best_none, best-next}
-use Rattle.mdp.specs.BackupLaws.{truths-good, truths-within, weight-within}
-use Rattle.mdp.specs.CallLaws.{within_more, leaf-listed, leaf-within, shared-made, apart-joined}
+use Rattle.mdp.proofs.StepLaws.{sum-none, sum-next, best_none, best-next}
+use Rattle.mdp.proofs.BackupLaws.{truths-good, truths-within, weight-within}
+use Rattle.mdp.proofs.CallLaws.{within_more, leaf-listed, leaf-within, shared-made, apart-joined}
 use Rattle.planner.specs.Parts.{variant_product, variant_added, freed_up, action_value, action_tried}
 use Rattle.steps.specs.GivenLaws.{then-then, then_same}
 

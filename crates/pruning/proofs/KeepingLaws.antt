@@ -22,7 +22,7 @@ use Rattle.diagram.specs.Validity.{tree}
 use Rattle.diagram.specs.Shown.{Shown}
 use Rattle.apply.specs.Apply.{node}
 use Rattle.apply.specs.Formed.{add}
-use Rattle.apply.specs.FormedLaws.{add-old, add-new, add-mem, add-begins}
+use Rattle.apply.proofs.FormedLaws.{add-old, add-new, add-mem, add-begins}
 use Rattle.store.specs.declared.Formed.{Formed}
 use Rattle.store.specs.declared.Formed.TheVariants.{Row, Full}
 use Rattle.store.specs.Space.{diagrams_of, Holds, Children, Formation}

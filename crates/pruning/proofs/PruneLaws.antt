@@ -24,7 +24,7 @@ use Rattle.write.specs.Writing.{WritePost}
 use Rattle.apart.specs.Results.{Closable}
 use Rattle.apart.proofs.StandingLaws.{Ready, stands-ready, ready-writable, ready-few, ready-closable, ready-done}
 use Rattle.cutting.specs.Cut.{written}
-use Rattle.reduction.specs.KeepingLaws.{keeping-good}
+use Rattle.reduction.proofs.KeepingLaws.{keeping-good}
 use Rattle.pruning.specs.Pruning.{kept_of, Agrees, stays_in, Prunable, Pruned}
 use Rattle.pruning.specs.Keeping.{Keepable, Kept}
 use Rattle.pruning.specs.PruningLaws.{kept-agrees}

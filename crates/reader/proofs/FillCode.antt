@@ -11,8 +11,8 @@ use Rattle.basics.specs.Tests.{Cmp, cmp}
 use Rattle.basics.specs.Tests.Cmp.{below, equal, above}
 use Rattle.label.specs.Limits.{predicate_count, predicate_weight, most_places, term_bits, term_base, weight_at}
 use Rattle.label.specs.Labels.{places_of, place_in, atom_from, weighed, packed, predicate_of, unpacked}
-use Rattle.label.specs.LabelLaws.{places-below, below-places, atom-same, place-from, packed-unpacked, unpacked-packed}
-use Rattle.label.specs.ArityLaws.{take_at, take_past}
+use Rattle.label.proofs.LabelLaws.{places-below, below-places, atom-same, place-from, packed-unpacked, unpacked-packed}
+use Rattle.label.proofs.ArityLaws.{take_at, take_past}
 use Rattle.label.specs.Callers.{Places, Packable}
 use Rattle.label.specs.declared.Atom.{Atom}
 use Rattle.reader.specs.Callers.{placed, Fillable}

@@ -11,7 +11,7 @@ use Rattle.refusal.specs.declared.Refusal.TheVariants.{Form, Name, Arity, Range}
 use Rattle.refusal.specs.Outcome.{ok}
 use Rattle.label.specs.Limits.{predicate_count, predicate_weight, term_end, most_places}
 use Rattle.label.specs.Labels.{places_of, place_in, atom_from, unpacked, test_of}
-use Rattle.label.specs.ArityLaws.{arity-most, arity-words}
+use Rattle.label.proofs.ArityLaws.{arity-most, arity-words}
 use Rattle.label.specs.Callers.{Packable}
 use Rattle.label.specs.declared.Atom.{Atom}
 use Rattle.label.specs.declared.Label.{Label}

@@ -2,7 +2,7 @@
 use Rattle.std.specs.Prelude.{ℕ, ◌+◌, ◌*◌, ◌≤◌, ◌<◌, ◌≡◌, List, [], ◌∷◌, ◌++◌, get_or}
 use Rattle.std.proofs.Math.Path.{subst}
 use Rattle.label.specs.Limits.{leaf_mark}
-use Rattle.label.specs.LabelLaws.{label-below}
+use Rattle.label.proofs.LabelLaws.{label-below}
 use Rattle.label.specs.declared.Test.{Test}
 use Rattle.label.specs.declared.Test.TheVariants.{Always, Is}
 use Rattle.diagram.specs.Sizes.{highest_value}

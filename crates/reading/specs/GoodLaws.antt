@@ -15,8 +15,8 @@ use Rattle.label.specs.Limits.{constant_count, first_parameter, parameter_count,
 use Rattle.label.specs.Terms.{is_constant, is_parameter, is_variable, is_minimum, is_term}
 use Rattle.label.specs.Labels.{are_arities, place_fits, in_order, atom_from, packed, unpacked, predicate_of, label_of, equates, test_of}
 use Rattle.label.specs.Renamings.{EachTerm, EachIn}
-use Rattle.label.specs.LabelLaws.{term-below, place-from, below-places, fits-atom, unpacked-packed, label-packed}
-use Rattle.label.specs.ArityLaws.{arity-two}
+use Rattle.label.proofs.LabelLaws.{term-below, place-from, below-places, fits-atom, unpacked-packed, label-packed}
+use Rattle.label.proofs.ArityLaws.{arity-two}
 use Rattle.label.specs.Callers.{Places}
 use Rattle.label.specs.declared.Atom.{Atom}
 use Rattle.label.specs.declared.Test.{Test}

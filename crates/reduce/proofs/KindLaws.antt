@@ -26,7 +26,7 @@ use Rattle.listing.specs.Used.{Used, marked_minimums}
 use Rattle.listing.specs.UsedLaws.{marked-plain}
 use Rattle.reduction.specs.Combinations.{some_of}
 use Rattle.reduction.specs.Reduction.{is_general, has_kinds, has_parameter}
-use Rattle.reduction.specs.CallLaws.{parameter-quiet, quiet-parameter}
+use Rattle.reduction.proofs.CallLaws.{parameter-quiet, quiet-parameter}
 use Rattle.reduce.specs.Winning.{some_used, Markable}
 use Rattle.reduce.proofs.CallLaws.{some-mem, mem-some}
 

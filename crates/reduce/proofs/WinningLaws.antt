@@ -31,7 +31,7 @@ use Rattle.paths.specs.Inner.{Leaves}
 use Rattle.paths.specs.PathLaws.{rows-paths}
 use Rattle.state.specs.Max.{gather, tuples}
 use Rattle.reduction.specs.Combinations.{valuations, formed, winners}
-use Rattle.reduction.specs.CombinationLaws.{tuples-length}
+use Rattle.reduction.proofs.CombinationLaws.{tuples-length}
 use Rattle.reduction.specs.Reduction.{most_formed}
 use Rattle.reduce.specs.Searching.{fact_end, stacked, ways, formed_on, winners_on, formed_from, winners_from, Facing, Searching, Standing, is_marked, Visited}
 use Rattle.reduce.specs.Facts.{fact_of}

@@ -14,9 +14,9 @@ use Rattle.basics.specs.Tests.{Flag, is_true, is_false, flag}
 use Rattle.basics.specs.Members.{clash}
 use Rattle.label.specs.Limits.{term_base, term_end, predicate_count, predicate_weight}
 use Rattle.label.specs.Labels.{packed, predicate_of, unpacked, places_of, terms_of, is_label}
-use Rattle.label.specs.LabelLaws.{place_of, place_end, label-fits}
+use Rattle.label.proofs.LabelLaws.{place_of, place_end, label-fits}
 use Rattle.label.specs.Renamings.{placed, mapped, renamed}
-use Rattle.label.specs.RenamingLaws.{placed-used, placed-unused}
+use Rattle.label.proofs.RenamingLaws.{placed-used, placed-unused}
 use Rattle.label.specs.declared.Atom.{Atom}
 use Rattle.diagram.specs.Words.{equal_lists}
 use Rattle.diagram.specs.WordLaws.{lists-equal, equal-lists}

@@ -23,8 +23,8 @@ use Rattle.paths.specs.Routes.{path_at}
 use Rattle.reduction.specs.Combinations.{some_of, valuations, object_of, Ground, ground_of, opposed, consistent, grounds}
 use Rattle.reduction.specs.Combinations.{facts, is_consistent, choices, combinations, formed_by, formed, before, winner, winners}
 use Rattle.reduction.specs.Inner.{AtLeast}
-use Rattle.reduction.specs.ListLaws.{reverse-in}
-use Rattle.reduction.specs.CombinationLaws.{in-tuples, tuples-in, in-choices, at-least-trans, earlier, winner-in, winner-first}
+use Rattle.reduction.proofs.ListLaws.{reverse-in}
+use Rattle.reduction.proofs.CombinationLaws.{in-tuples, tuples-in, in-choices, at-least-trans, earlier, winner-in, winner-first}
 use Rattle.reduce.specs.Searching.{Way, ways, sum_of, better_of, formed_on, winners_on}
 use Rattle.reduce.specs.Facts.{fact_of, code_of, codes_of, choice_codes, clashing, is_clear}
 use Rattle.reduce.specs.FactLaws.{opposed-clash}

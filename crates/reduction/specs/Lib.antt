@@ -61,13 +61,3 @@ pub mod Combinations
 pub mod Reduction
 pub mod Claims
 pub mod Inner
--- laws
-pub mod ListLaws
-pub mod CombinationLaws
-pub mod OrderLaws
-pub mod KeepingLaws
-pub mod ModelLaws
-pub mod KindLaws
-pub mod ClosedLaws
-pub mod ReductionLaws
-pub mod CallLaws

@@ -29,7 +29,7 @@ use Rattle.regression.specs.declared.Regressed.TheVariants.{Done, Refused}
 use Rattle.regression.specs.Calls.{Run}
 use Rattle.regression.specs.Regression.{regression, regressed}
 use Rattle.regression.specs.RegressCall.{truths_of, are_listings, regress_outcome, regressed_as, written_as, regress_answer, regress_result}
-use Rattle.regression.specs.RegressCallLaws.{regress-value, regress-truths, regress-buffer, regress-checks, regress-refused, result-refused}
+use Rattle.regression.proofs.RegressCallLaws.{regress-value, regress-truths, regress-buffer, regress-checks, regress-refused, result-refused}
 use Rattle.write.specs.declared.Listed.{Listed}
 use Rattle.write.specs.declared.Listed.TheVariants.{Rows, TooMany}
 use Rattle.write.specs.Writing.{Writable, write_answer, write_words, WritePost}

@@ -13,7 +13,7 @@ use Rattle.basics.specs.Prefix.{Prefix, mem-prefix}
 use Rattle.basics.specs.Tests.{Cmp, below, equal, above, cmp}
 use Rattle.label.specs.Limits.{predicate_count, predicate_weight}
 use Rattle.label.specs.Labels.{is_label, predicate_of, unpacked, in_order}
-use Rattle.label.specs.LabelLaws.{label-fits}
+use Rattle.label.proofs.LabelLaws.{label-fits}
 use Rattle.diagram.specs.Diagram.{Diagram, leaf, same}
 use Rattle.diagram.specs.Validity.{tree}
 use Rattle.diagram.specs.Sizes.{space_rows}
@@ -22,11 +22,11 @@ use Rattle.apply.specs.Formed.{add}
 use Rattle.store.specs.declared.Formed.{Formed}
 use Rattle.store.specs.Space.{diagrams_of, Formation}
 use Rattle.regression.specs.Calls.{Run, bind, form}
-use Rattle.regression.specs.CallLaws.{Steady, steady-bind, steady-form, form-forms, form-old}
+use Rattle.regression.proofs.CallLaws.{Steady, steady-bind, steady-form, form-forms, form-old}
 use Rattle.regression.specs.Step.{row_step}
-use Rattle.regression.specs.StepLaws.{steady-step}
+use Rattle.regression.proofs.StepLaws.{steady-step}
 use Rattle.regression.specs.Regression.{Truths, truth_at}
-use Rattle.regression.specs.RegressionLaws.{steady-truth}
+use Rattle.regression.proofs.RegressionLaws.{steady-truth}
 use Rattle.regression.specs.RegressCall.{truths_of}
 use Rattle.row_steps.specs.declared.Stepped.{Stepped}
 use Rattle.row_steps.specs.declared.Stepped.TheVariants.{Row, Refused}

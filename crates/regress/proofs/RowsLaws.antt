@@ -14,7 +14,7 @@ use Rattle.refusal.specs.declared.Refusal.{Refusal}
 use Rattle.refusal.specs.Outcome.{ok}
 use Rattle.basics.specs.Tests.{Flag, is_true, is_false, flag, Cmp, below, equal, above, cmp}
 use Rattle.label.specs.Limits.{leaf_mark}
-use Rattle.label.specs.LabelLaws.{label-below}
+use Rattle.label.proofs.LabelLaws.{label-below}
 use Rattle.label.specs.Labels.{is_label}
 use Rattle.label.specs.Inner.{map_of}
 use Rattle.label.specs.Renamings.{moved}
@@ -40,8 +40,8 @@ use Rattle.store.specs.Space.{diagrams_of, Formation}
 use Rattle.regression.specs.Calls.{Run, bind, form}
 use Rattle.regression.specs.Step.{test_diagram, row_step}
 use Rattle.regression.specs.Regression.{result_of, row_result, row_results, last_of, over_rows}
-use Rattle.regression.specs.RegressionLaws.{row-leaf, row-branch, results-none, results-cons, over-rows}
-use Rattle.regression.specs.MovedLaws.{moved_to, moved-label}
+use Rattle.regression.proofs.RegressionLaws.{row-leaf, row-branch, results-none, results-cons, over-rows}
+use Rattle.regression.proofs.MovedLaws.{moved_to, moved-label}
 use Rattle.row_steps.specs.declared.Stepped.{Stepped}
 use Rattle.row_steps.specs.declared.Stepped.TheVariants.{Row, Refused}
 use Rattle.row_steps.specs.Running.{Space, Ready, Two, Gave, count_then, Ran, Testable}

@@ -13,8 +13,8 @@ use Rattle.basics.specs.Members.{clash}
 use Rattle.basics.specs.Tests.{and_left, and_right, Flag, is_true, is_false, flag, Cmp, below, equal, above, cmp}
 use Rattle.label.specs.Limits.{first_variable, term_end, predicate_count, most_places, leaf_mark}
 use Rattle.label.specs.Labels.{are_arities, places_of, terms_of, unpacked, predicate_of, place_at}
-use Rattle.label.specs.LabelLaws.{term-below, label-below, label-fits, place_of, predicate-of}
-use Rattle.label.specs.ArityLaws.{arity-most, arity-words, take_at, take_past}
+use Rattle.label.proofs.LabelLaws.{term-below, label-below, label-fits, place_of, predicate-of}
+use Rattle.label.proofs.ArityLaws.{arity-most, arity-words, take_at, take_past}
 use Rattle.label.specs.Inner.{map_of}
 use Rattle.label.specs.declared.Label.{Label}
 use Rattle.label.specs.declared.Test.TheVariants.{Is}
@@ -25,18 +25,18 @@ use Rattle.diagram.specs.Words.{is_listing}
 use Rattle.diagram.specs.Listing.{diagram_of}
 use Rattle.diagram.specs.Validity.{tree}
 use Rattle.diagram.specs.ListingValid.{listing-is-valid}
-use Rattle.state.specs.ValueLaws.{Each-mono}
+use Rattle.state.proofs.ValueLaws.{Each-mono}
 use Rattle.store.specs.declared.Formed.{Formed}
 use Rattle.store.specs.declared.Formed.TheVariants.{Row as FormedRow, Full}
 use Rattle.store.specs.Space.{diagrams_of, Formation}
 use Rattle.regression.specs.Calls.{Run, bind, form}
-use Rattle.regression.specs.CallLaws.{form-old, bind-refused}
+use Rattle.regression.proofs.CallLaws.{form-old, bind-refused}
 use Rattle.regression.specs.Step.{label_test, test_diagram}
-use Rattle.regression.specs.StepLaws.{most-test}
+use Rattle.regression.proofs.StepLaws.{most-test}
 use Rattle.regression.specs.Regression.{argument, replacement, truth_of, truth_from, truth_at}
-use Rattle.regression.specs.ResultLaws.{label-terms, argument-low, argument-high, argument-in, argument-terms}
+use Rattle.regression.proofs.ResultLaws.{label-terms, argument-low, argument-high, argument-in, argument-terms}
 use Rattle.regression.specs.RegressCall.{truth_count, truth_words, truths_of}
-use Rattle.regression.specs.RegressCallLaws.{truths-none, truths-some, listings-at}
+use Rattle.regression.proofs.RegressCallLaws.{truths-none, truths-some, listings-at}
 use Rattle.regression.specs.Result.{AtMost}
 use Rattle.row_steps.specs.declared.Stepped.{Stepped}
 use Rattle.row_steps.specs.Running.{Ready, Ran, Testable}

@@ -56,13 +56,3 @@ pub mod RegressCall
 pub mod Result
 pub mod Parameters
 pub mod Tells
--- laws
-pub mod CallLaws
-pub mod StepLaws
-pub mod RegressionLaws
-pub mod MovedLaws
-pub mod ResultLaws
-pub mod FreeingLaws
-pub mod TellsLaws
-pub mod RegressCallLaws
-pub mod FreeCallLaws

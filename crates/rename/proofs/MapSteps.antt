@@ -11,7 +11,7 @@ use borrow.Author.Tests.{eq-eqb, ne_eqb, lt-ltb, le-ltb}
 use Rattle.basics.specs.Tests.{Cmp, below, equal, above, cmp}
 use Rattle.label.specs.Limits.{first_parameter, parameter_count, first_variable, first_minimum, term_end}
 use Rattle.label.specs.Renamings.{rank, numbering, freeing}
-use Rattle.label.specs.RenamingLaws.{numbering-variable, numbering-minimum, freeing-constant, freeing-parameter, freeing-variable, freeing-minimum}
+use Rattle.label.proofs.RenamingLaws.{numbering-variable, numbering-minimum, freeing-constant, freeing-parameter, freeing-variable, freeing-minimum}
 use Rattle.rename.specs.AscendingLaws.{rank-none, rank_most}
 use Rattle.rename.specs.Maps.{tabled, is_used, used_variables, used_minimums, close_at}
 use Rattle.rename.specs.MapLaws.{tabled-none, tabled-next, length-tabled, used-variables-ascending, used-variable, used-minimums-ascending, used-minimum, rank-next}

@@ -9,7 +9,7 @@ use Rattle.label.specs.Limits.{first_variable, variable_count, first_minimum, mi
 use Rattle.label.specs.Callers.{TermMap}
 use Rattle.label.specs.Inner.{map_of}
 use Rattle.label.specs.Renamings.{rank, numbering, freeing}
-use Rattle.label.specs.RenamingLaws.{rank_below, numbering-low, numbering-variable, numbering-minimum, freeing-constant, freeing-parameter, freeing-variable, freeing-minimum}
+use Rattle.label.proofs.RenamingLaws.{rank_below, numbering-low, numbering-variable, numbering-minimum, freeing-constant, freeing-parameter, freeing-variable, freeing-minimum}
 use Rattle.diagram.specs.Diagram.{Diagram}
 use Rattle.diagram.specs.Variables.{occurs, occurring, variables, minimums}
 use Rattle.rename.specs.Ascending.{Ascending}

@@ -10,8 +10,8 @@ use Rattle.label.specs.Limits.{most_places}
 use Rattle.label.specs.Terms.{is_term}
 use Rattle.label.specs.Labels.{places_of, place_in, packed, predicate_of, unpacked, place_fits, is_label, terms_of}
 use Rattle.label.specs.Renamings.{placed, mapped, renamed, EachTerm, EachIn}
-use Rattle.label.specs.LabelLaws.{atom-same, predicate-of, label-fits, packed-unpacked}
-use Rattle.label.specs.RenamingLaws.{placed-used, placed-unused, mapped-place}
+use Rattle.label.proofs.LabelLaws.{atom-same, predicate-of, label-fits, packed-unpacked}
+use Rattle.label.proofs.RenamingLaws.{placed-used, placed-unused, mapped-place}
 use Rattle.label.specs.declared.Atom.{Atom}
 use Rattle.rename.specs.Ascending.{All}
 use Rattle.rename.specs.AscendingLaws.{all-mem, mem-all}

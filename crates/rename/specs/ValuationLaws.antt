@@ -6,7 +6,7 @@ use mathlib.Core.List.{List, map, map-map}
 use Rattle.label.specs.Labels.{are_arities, predicate_of, unpacked, terms_of, is_label}
 use Rattle.label.specs.Inner.{Increasing}
 use Rattle.label.specs.Renamings.{renamed, mapped, EachIn}
-use Rattle.label.specs.RenamingLaws.{renamed-terms, renamed-atom}
+use Rattle.label.proofs.RenamingLaws.{renamed-terms, renamed-atom}
 use Rattle.diagram.specs.Diagram.{Diagram, relabel}
 use Rattle.diagram.specs.Listing.{Fine}
 use Rattle.rename.specs.Inner.{Named}

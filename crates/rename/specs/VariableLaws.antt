@@ -11,8 +11,8 @@ use Rattle.label.specs.Terms.{is_term}
 use Rattle.label.specs.Labels.{are_arities, unpacked, terms_of}
 use Rattle.label.specs.Inner.{Increasing}
 use Rattle.label.specs.Renamings.{renamed, EachIn}
-use Rattle.label.specs.LabelLaws.{term-below}
-use Rattle.label.specs.RenamingLaws.{renamed-label, renamed-less, renamed-terms, Numbered}
+use Rattle.label.proofs.LabelLaws.{term-below}
+use Rattle.label.proofs.RenamingLaws.{renamed-label, renamed-less, renamed-terms, Numbered}
 use Rattle.diagram.specs.Diagram.{Diagram, leaf, branch, relabel, EveryLabel}
 use Rattle.diagram.specs.Rows.{rows}
 use Rattle.diagram.specs.Listing.{listing, Fine, Good}

@@ -33,8 +33,3 @@
 pub mod Replay
 pub mod Along
 pub mod Inner
--- laws
-pub mod AlikeLaws
-pub mod LargeLaws
-pub mod FactLaws
-pub mod ReplayLaws

@@ -21,14 +21,14 @@ use Rattle.state.specs.declared.Valued.TheVariants.{Value, Refused as Unvalued}
 use Rattle.state.specs.State.{State, atom_of, meaning, holds, value}
 use Rattle.state.specs.Next.{next}
 use Rattle.state.specs.Lent.{fact_words, fact_count, state_of, is_state, most_facts}
-use Rattle.minimum.specs.NumberLaws.{number_is, number-attained}
+use Rattle.minimum.proofs.NumberLaws.{number_is, number-attained}
 use Rattle.elimination.specs.Answer.{is_too_large}
-use Rattle.elimination.specs.AnswerLaws.{lent-good}
+use Rattle.elimination.proofs.AnswerLaws.{lent-good}
 use Rattle.fact_index.specs.Inner.{indexed_count, Indexed}
-use Rattle.mdp.specs.BackupLaws.{bound-none}
+use Rattle.mdp.proofs.BackupLaws.{bound-none}
 use Rattle.mdp.specs.Bellman.{state_after}
 use Rattle.replay.specs.Replay.{facts_of}
-use Rattle.replay.specs.FactLaws.{facts-lent}
+use Rattle.replay.proofs.FactLaws.{facts-lent}
 use Rattle.valuing.specs.Walks.{bound_number, bound_answer}
 use Rattle.next_facts.specs.declared.Facts.{Facts}
 use Rattle.next_facts.specs.declared.Facts.TheVariants.{Rows, Many}

@@ -17,7 +17,7 @@ use Rattle.state.specs.declared.Valued.TheVariants.{Value, Refused as Unvalued}
 use Rattle.state.specs.State.{State, Good, meaning}
 use Rattle.state.specs.Lent.{fact_count, state_of, most_facts}
 use Rattle.elimination.specs.Answer.{is_too_large}
-use Rattle.elimination.specs.AnswerLaws.{lent-good}
+use Rattle.elimination.proofs.AnswerLaws.{lent-good}
 use Rattle.names.specs.Many.{many}
 use Rattle.names.specs.ManyLaws.{length-many, get_d-many}
 use Rattle.mdp.specs.Model.{Variant, Action, Model, Every, GoodVariant, GoodAction}

@@ -21,13 +21,13 @@ use Rattle.state.specs.declared.Valued.TheVariants.{Value, Refused}
 use Rattle.state.specs.Lent.{state_of}
 use Rattle.state.specs.State.{State, Good, meaning}
 use Rattle.state.specs.Highest.{Bound, start}
-use Rattle.state.specs.HighestLaws.{start_fits}
-use Rattle.state.specs.ValueLaws.{Terms-mono}
+use Rattle.state.proofs.HighestLaws.{start_fits}
+use Rattle.state.proofs.ValueLaws.{Terms-mono}
 use Rattle.state.specs.ValueCall.{most_valuations, valuations}
 use Rattle.minimum.specs.Number.{number}
-use Rattle.minimum.specs.NumberLaws.{number-equal}
-use Rattle.minimum.specs.ApartLaws.{number-fixed}
-use Rattle.minimum.specs.OccurLaws.{terms-occur}
+use Rattle.minimum.proofs.NumberLaws.{number-equal}
+use Rattle.minimum.proofs.ApartLaws.{number-fixed}
+use Rattle.minimum.proofs.OccurLaws.{terms-occur}
 use Rattle.elimination.specs.Elimination.{most_entries, all_entries}
 use Rattle.elimination.specs.Answer.{is_too_large}
 use Rattle.mdp.specs.Model.{Variant, GoodVariant}

@@ -14,9 +14,9 @@ use Rattle.diagram.specs.Words.{is_listing}
 use Rattle.diagram.specs.Listing.{diagram_of, Good}
 use Rattle.diagram.specs.Listings.{is-listing-diagram, is-listing-good, good-is-listing}
 use Rattle.listing.specs.Check.{Decides}
-use Rattle.state.specs.ValueLaws.{by-low}
+use Rattle.state.proofs.ValueLaws.{by-low}
 use Rattle.regression.specs.RegressCall.{truth_count, truth_words, truths_of}
-use Rattle.regression.specs.RegressCallLaws.{truths-none, truths-some}
+use Rattle.regression.proofs.RegressCallLaws.{truths-none, truths-some}
 use Rattle.names.specs.Many.{many}
 use Rattle.names.specs.ManyLaws.{length-many}
 use Rattle.names.specs.KeyLaws.{length-keys}

@@ -15,7 +15,7 @@ use Rattle.label.specs.Limits.{constant_count, predicate_count}
 use Rattle.diagram.specs.Diagram.{Diagram}
 use Rattle.diagram.specs.Listing.{listing, diagram_of}
 use Rattle.diagram.specs.Listings.{is-listing-diagram}
-use Rattle.state.specs.ValueLaws.{by-low}
+use Rattle.state.proofs.ValueLaws.{by-low}
 use Rattle.state.specs.Lent.{fact_words}
 use Rattle.names.specs.Many.{many}
 use Rattle.names.specs.ManyLaws.{length-many, get_d-many}

@@ -30,13 +30,3 @@
 pub mod Numbering
 pub mod RoundTrip
 pub mod KeyNames
--- laws
-pub mod NumberingLaws
-pub mod NameLaws
-pub mod WrittenLaws
-pub mod BuildLaws
-pub mod RoundTripLaws
-pub mod KeyNameLaws
-pub mod SessionLaws
-pub mod PlaceLaws
-pub mod ExampleLaws

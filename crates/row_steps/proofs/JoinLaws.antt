@@ -18,11 +18,11 @@ use Rattle.apply.specs.Apply.{node, apply}
 use Rattle.apply.specs.ApplyLaws.{node-same, node-differ, apply-step}
 use Rattle.apply.specs.Pairs.{pairs, overflows}
 use Rattle.apply.specs.Course.{Course, stops, descends, course, ending}
-use Rattle.apply.specs.OverflowLaws.{calm-root, calm-true, calm-false}
+use Rattle.apply.proofs.OverflowLaws.{calm-root, calm-true, calm-false}
 use Rattle.store.specs.Space.{diagrams_of, Holds}
 use Rattle.store.proofs.SpaceLaws.{formed-room}
 use Rattle.regression.specs.Calls.{combine}
-use Rattle.regression.specs.CallLaws.{form-space, combine-pairs, combine-value, combine-calm}
+use Rattle.regression.proofs.CallLaws.{form-space, combine-pairs, combine-value, combine-calm}
 use Rattle.regression.specs.Result.{AtMost}
 use Rattle.combine.specs.Joining.{rows_after, count_after, diagrams_after, Joint}
 use Rattle.combine.specs.Endings.{Told, Ended, many, high, full, row, ended}

@@ -29,7 +29,7 @@ use Rattle.diagram.specs.Validity.{tree}
 use Rattle.diagram.specs.RowLaws.{onto-mem, kept-index-is, onto-keeps}
 use Rattle.apply.specs.declared.Operation.TheVariants.{Sum, Product}
 use Rattle.apply.specs.Formed.{add}
-use Rattle.apply.specs.FormedLaws.{add-begins}
+use Rattle.apply.proofs.FormedLaws.{add-begins}
 use Rattle.store.specs.declared.Formed.{Formed}
 use Rattle.store.specs.declared.Formed.TheVariants.{Row as FormedRow, Full}
 use Rattle.store.specs.Space.{diagrams_of, Holds, stands_for, Formable, a-branch, Formation}
@@ -37,7 +37,7 @@ use Rattle.store.specs.AddLaws.{add-branch}
 use Rattle.store.proofs.SpaceLaws.{length-diagrams, diagram-at, stands-branch, formed-room, formation-row, formation-tree, formation-old, full-more, holds-closed}
 use Rattle.regression.specs.Calls.{Run, bind, form, combine}
 use Rattle.regression.specs.Step.{test_diagram, exchanged, row_step}
-use Rattle.regression.specs.StepLaws.{most-test, most-exchanged}
+use Rattle.regression.proofs.StepLaws.{most-test, most-exchanged}
 use Rattle.regression.specs.Result.{AtMost}
 use Rattle.row_steps.specs.declared.Stepped.{Stepped}
 use Rattle.row_steps.specs.declared.Stepped.TheVariants.{Row, Refused}

@@ -22,13 +22,13 @@ use Rattle.plan.specs.Walk.{Leads}
 use Rattle.plan.specs.Plan.{Clean}
 use Rattle.plan.specs.PlanLaws.{index-empty}
 use Rattle.apply.specs.Formed.{add}
-use Rattle.apply.specs.FormedLaws.{add-leaf}
+use Rattle.apply.proofs.FormedLaws.{add-leaf}
 use Rattle.store.specs.declared.Formed.{Formed}
 use Rattle.store.specs.declared.Formed.TheVariants.{Row as FormedRow, Full}
 use Rattle.store.specs.Space.{diagrams_of, Holds, Formation}
 use Rattle.store.proofs.SpaceLaws.{length-diagrams, tree-row, formation-row, formation-full, formation-tree, formation-old}
 use Rattle.regression.specs.Calls.{Run, bind, form}
-use Rattle.regression.specs.CallLaws.{form-room, form-space, form-old, bind-refused}
+use Rattle.regression.proofs.CallLaws.{form-room, form-space, form-old, bind-refused}
 use Rattle.regression.specs.Result.{AtMost}
 use Rattle.combine.specs.RowPairs.{Operand}
 use Rattle.combine.specs.Paired.{Pairable}

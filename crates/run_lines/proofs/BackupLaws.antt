@@ -14,7 +14,7 @@ use Rattle.regression.specs.RegressCall.{written_as}
 use Rattle.mdp.specs.Model.{Model, scale}
 use Rattle.mdp.specs.Backup.{most_steps, scale_ends, backup}
 use Rattle.mdp.specs.Runs.{held_with, call}
-use Rattle.mdp.specs.StepLaws.{on-scale, backup-ends}
+use Rattle.mdp.proofs.StepLaws.{on-scale, backup-ends}
 use Rattle.answers.specs.declared.Answer.TheVariants as A
 use Rattle.text.specs.declared.Kind.TheVariants as K
 use Rattle.session.specs.Running.{backup_is}

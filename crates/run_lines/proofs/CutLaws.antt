@@ -11,7 +11,7 @@ use Rattle.cutting.specs.declared.Cut.{Cut}
 use Rattle.cutting.specs.declared.Cut.TheVariants.{Done, Refused}
 use Rattle.cutting.specs.Cut.{diagram_answer}
 use Rattle.mdp.specs.Runs.{Held as Value, cut_outcome, held_with, call}
-use Rattle.mdp.specs.StepLaws.{cut-refused}
+use Rattle.mdp.proofs.StepLaws.{cut-refused}
 use Rattle.answers.specs.declared.Answer.{Answer}
 use Rattle.answers.specs.declared.Answer.TheVariants as A
 use Rattle.text.specs.declared.Kind.TheVariants as K

@@ -15,7 +15,7 @@ use Rattle.cutting.specs.Cut.{written}
 use Rattle.reduction.specs.declared.Reduced.{Reduced}
 use Rattle.reduction.specs.declared.Reduced.TheVariants.{Done, Refused}
 use Rattle.reduction.specs.Reduction.{reduce_answer, answer_of, buffer_of}
-use Rattle.reduction.specs.ReductionLaws.{answered, reduced-listed}
+use Rattle.reduction.proofs.ReductionLaws.{answered, reduced-listed}
 use Rattle.reduce.specs.Winning.{Reducible, ReduceCallAnswered}
 use Rattle.mdp.specs.Runs.{held_with, call}
 use Rattle.answers.specs.declared.Answer.TheVariants as A

@@ -25,7 +25,7 @@ use Rattle.answers.specs.DigitLaws.{digits-short}
 use Rattle.answering.specs.Wrote.{Wrote}
 use Rattle.text.specs.Line.{most_line_bytes, most_open_brackets}
 use Rattle.diagram_form.specs.Form.{Tables, form_bytes, form_length, open_brackets, is_too_long}
-use Rattle.diagram_form.specs.FormLaws.{form-length}
+use Rattle.diagram_form.proofs.FormLaws.{form-length}
 use Rattle.spelling.specs.declared.Measured.TheVariants.{Bytes, TooLong}
 use Rattle.spelling.specs.Spelling.{tables_at, measured}
 use Rattle.spelling.specs.Parts.{Spelt, test_text, test_bytes, row_text, most_form_bytes, most_form_brackets, held_bytes, held_open, ByteCounts, OpenCounts}

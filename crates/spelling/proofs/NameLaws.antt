@@ -19,7 +19,7 @@ use Rattle.answering.specs.Wrote.{Wrote}
 use Rattle.answering.proofs.WriteLaws.{wrote_nothing, wrote_then}
 use Rattle.answering.proofs.KeyLaws.{name-short}
 use Rattle.diagram_form.specs.Form.{tables_of, variable_name}
-use Rattle.diagram_form.specs.FormLaws.{Kinds, constant, maximum, least, kinds, constant-tree, variable-tree, minimum-tree}
+use Rattle.diagram_form.proofs.FormLaws.{Kinds, constant, maximum, least, kinds, constant-tree, variable-tree, minimum-tree}
 use Rattle.spelling.specs.Spelling.{tables_at}
 use Rattle.spelling.specs.Parts.{name_at, term_text}
 

@@ -22,7 +22,7 @@ use Rattle.answering.specs.Wrote.{Wrote}
 use Rattle.answering.proofs.WriteLaws.{wrote_then, one_byte}
 use Rattle.answering.proofs.LineLaws.{placed_past, placed-short, placed_at}
 use Rattle.diagram_form.specs.Form.{Tables, form_tree, form_bytes, form_length}
-use Rattle.diagram_form.specs.FormLaws.{form-length}
+use Rattle.diagram_form.proofs.FormLaws.{form-length}
 use Rattle.spelling.specs.Spelling.{tables_at, Named, form_line}
 use Rattle.spelling.specs.Parts.{Spelt, head_text, places_text, test_text, row_text}
 use Rattle.spelling.proofs.TestLaws.{atom-text}

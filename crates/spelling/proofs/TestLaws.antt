@@ -12,8 +12,8 @@ use borrow.Author.Tests.{eq-eqb, ne_eqb, eqb-true, eqb-false}
 use Rattle.basics.specs.Tests.{Flag, is_true, is_false, flag}
 use Rattle.label.specs.Limits.{equality, most_places}
 use Rattle.label.specs.Labels.{are_arities, is_label, predicate_of, place_at, places_of, unpacked, terms_of}
-use Rattle.label.specs.LabelLaws.{place_of, place_base, predicate-of, label-fits}
-use Rattle.label.specs.ArityLaws.{arity-most, arity-two, arity-words}
+use Rattle.label.proofs.LabelLaws.{place_of, place_base, predicate-of, label-fits}
+use Rattle.label.proofs.ArityLaws.{arity-most, arity-two, arity-words}
 use Rattle.diagram.specs.WordLaws.{map_snoc}
 use Rattle.names.specs.Layout.{declared_at}
 use Rattle.forms.specs.Tree.{term_bytes, many_bytes, atom_bytes}

@@ -5,7 +5,7 @@ use Rattle.std.specs.Prelude.{Bool, cond, List, [], ◌∷◌, ℕ, ◌≤◌, l
 use Rattle.std.proofs.Math.Bool.{true, false}
 use Rattle.diagram.specs.Diagram.{Diagram}
 use Rattle.diagram_form.specs.Form.{Tables, form_bytes, form_length, is_too_long}
-use Rattle.diagram_form.specs.FormLaws.{form-length, reward-length, not-too-long}
+use Rattle.diagram_form.proofs.FormLaws.{form-length, reward-length, not-too-long}
 use Rattle.spelling.specs.declared.Measured.{Measured}
 use Rattle.spelling.specs.declared.Measured.TheVariants.{Bytes, TooLong}
 use Rattle.spelling.specs.Spelling.{measured, form_line}

@@ -31,10 +31,3 @@
 pub mod Ground
 pub mod Inner
 pub mod Spread
--- laws
-pub mod SpreadLaws
-pub mod GroundLaws
-pub mod ChoiceLaws
-pub mod LeafLaws
-pub mod LentChoiceLaws
-pub mod Table

@@ -48,8 +48,3 @@ pub mod Highest
 pub mod Inner
 pub mod Lent
 pub mod ValueCall
-pub mod MaxLaws
-pub mod ValueLaws
-pub mod NextLaws
-pub mod HighestLaws
-pub mod LentLaws

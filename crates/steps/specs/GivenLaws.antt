@@ -21,12 +21,12 @@ use Rattle.apply.specs.declared.Names.TheVariants.{Shared}
 use Rattle.apply.specs.declared.Combined.{Combined}
 use Rattle.apply.specs.declared.Combined.TheVariants.{Done, Refused as NotCombined}
 use Rattle.apply.specs.Combination.{done_as}
-use Rattle.apply.specs.CombinationLaws.{done-accepted}
+use Rattle.apply.proofs.CombinationLaws.{done-accepted}
 use Rattle.regression.specs.RegressCall.{written_as}
 use Rattle.combine.specs.Calls.{Callable, CombineAnswered}
 use Rattle.mdp.specs.Backup.{combined}
-use Rattle.mdp.specs.StepLaws.{combined-done, combined-refused}
-use Rattle.mdp.specs.CallLaws.{leaf-listed, combined-listed}
+use Rattle.mdp.proofs.StepLaws.{combined-done, combined-refused}
+use Rattle.mdp.proofs.CallLaws.{leaf-listed, combined-listed}
 use Rattle.steps.specs.declared.Step.{Step}
 use Rattle.steps.specs.declared.Step.TheVariants.{Rows, Refused}
 use Rattle.steps.specs.Steps.{step_as, told_as, Result, Given, Wrote, Begun, Operands, Scalable, Folding}

@@ -32,7 +32,7 @@ use Rattle.diagram.specs.RowDiagrams.{branch_row}
 use Rattle.diagram.specs.DiagramOfListing.{valid-rows, shown-rows, diagram-is, rows_are}
 use Rattle.diagram.specs.ListingValid.{listing-is-valid}
 use Rattle.apply.specs.Formed.{add}
-use Rattle.apply.specs.FormedLaws.{add-mem, add-begins}
+use Rattle.apply.proofs.FormedLaws.{add-mem, add-begins}
 use Rattle.store.specs.declared.Formed.{Formed}
 use Rattle.store.specs.declared.Formed.TheVariants.{Row, Full}
 use Rattle.store.specs.Space.{diagrams_of, Holds, stands_for, Formable, a-leaf, a-branch, Formation, add_all}

@@ -37,7 +37,7 @@ use Rattle.apply.specs.Apply.{node}
 use Rattle.apply.specs.ApplyLaws.{node-same, node-differ}
 use Rattle.apply.specs.Inner.{ClosedRows}
 use Rattle.apply.specs.Formed.{add}
-use Rattle.apply.specs.FormedLaws.{add-old, add-new}
+use Rattle.apply.proofs.FormedLaws.{add-old, add-new}
 use Rattle.store.specs.declared.Formed.{Formed}
 use Rattle.store.specs.declared.Formed.TheVariants.{Row, Full}
 use Rattle.store.specs.AddLaws.{kept-closed}

@@ -11,8 +11,8 @@ use Rattle.diagram.specs.Inner.{Kept}
 use Rattle.diagram.specs.RowLaws.{onto-fresh, kept-children}
 use Rattle.apply.specs.Inner.{ClosedRows}
 use Rattle.apply.specs.Formed.{add}
-use Rattle.apply.specs.FormedLaws.{add-old, add-new, add-mem, add-begins, add-leaf}
-use Rattle.apply.specs.RowLaws.{onto-closed, rows-onto}
+use Rattle.apply.proofs.FormedLaws.{add-old, add-new, add-mem, add-begins, add-leaf}
+use Rattle.apply.proofs.RowLaws.{onto-closed, rows-onto}
 use Rattle.store.specs.Space.{add_all}
 
 -- the laws of `add_all`: nothing else unfolds it

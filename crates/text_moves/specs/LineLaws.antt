@@ -14,8 +14,8 @@ use Rattle.elimination.specs.Answer.{is_too_large}
 use Rattle.mdp.specs.Model.{Every}
 use Rattle.best.specs.Moves.{Move}
 use Rattle.best.specs.Inner.{Passes}
-use Rattle.best.specs.RefusalLaws.{stopped-refused, refused-stopped, passes-answered, answered-passes}
-use Rattle.best.specs.NumberLaws.{best-not-scale}
+use Rattle.best.proofs.RefusalLaws.{stopped-refused, refused-stopped, passes-answered, answered-passes}
+use Rattle.best.proofs.NumberLaws.{best-not-scale}
 use Rattle.text.specs.declared.Kind.{Kind}
 use Rattle.text.specs.declared.Kind.TheVariants as K
 use Rattle.text.specs.Line.{is_bad}

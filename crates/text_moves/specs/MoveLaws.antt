@@ -4,12 +4,12 @@ use Rattle.std.proofs.Common.{sym, arith}
 use Rattle.std.proofs.Math.Path.{subst}
 use Rattle.refusal.specs.Outcome.{ok}
 use Rattle.state.specs.State.{Good}
-use Rattle.elimination.specs.AnswerLaws.{lent-good}
+use Rattle.elimination.proofs.AnswerLaws.{lent-good}
 use Rattle.mdp.specs.Runs.{Call, Held, run}
 use Rattle.best.specs.Moves.{Move}
 use Rattle.best.specs.Best.{best_answer}
 use Rattle.best.specs.Claims.{StepsBy}
-use Rattle.best.specs.BestLaws.{best-run}
+use Rattle.best.proofs.BestLaws.{best-run}
 use Rattle.words.specs.declared.Key.{Key}
 use Rattle.answers.specs.declared.Answer.TheVariants as A
 use Rattle.session.specs.declared.Part.TheVariants.{Run}
@@ -17,8 +17,8 @@ use Rattle.session.specs.Session.{Session}
 use Rattle.session.specs.Running.{state_in, best_read}
 use Rattle.session.specs.Replies.{is_placed, reply}
 use Rattle.session.specs.Good.{GoodSession}
-use Rattle.session_laws.specs.PlaceLaws.{placed-objects}
-use Rattle.session_laws.specs.PrintLaws.{reply-moves}
+use Rattle.session_laws.proofs.PlaceLaws.{placed-objects}
+use Rattle.session_laws.proofs.PrintLaws.{reply-moves}
 use Rattle.text_moves.specs.Claims.{in_hand, MovesBy}
 
 -- where every constant is placed, the state in hand is one

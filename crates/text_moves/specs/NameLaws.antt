@@ -36,9 +36,9 @@ use Rattle.session.specs.Replies.{Reply, words_of, reply}
 use Rattle.session.specs.Texts.{has_bytes, Progress, replied, after_line, after_lines, beginning, reply_bytes}
 use Rattle.session_laws.specs.TextReplies.{replies}
 use Rattle.session_laws.specs.TextRuns.{is_refused}
-use Rattle.session_laws.specs.RunLaws.{made_by}
-use Rattle.session_laws.specs.CaseLaws.{Cases, vocabulary_of, done-by, reply-by}
-use Rattle.session_laws.specs.MadeLaws.{constant_by, predicate-by, action-by, change_of}
+use Rattle.session_laws.proofs.RunLaws.{made_by}
+use Rattle.session_laws.proofs.CaseLaws.{Cases, vocabulary_of, done-by, reply-by}
+use Rattle.session_laws.proofs.MadeLaws.{constant_by, predicate-by, action-by, change_of}
 use Rattle.text_moves.specs.Claims.{MovesBy, Declares, none as no_line_lem, action, other, NamesMove}
 
 -- ===== What a line does to the actions =====

@@ -8,9 +8,9 @@ use Rattle.mdp.specs.Model.{Model, scale}
 use Rattle.mdp.specs.Bellman.{reward_in, bellman}
 use Rattle.mdp.specs.Backup.{backup}
 use Rattle.mdp.specs.Runs.{a_backup, Held, call}
-use Rattle.mdp.specs.StepLaws.{held_with_lem}
+use Rattle.mdp.proofs.StepLaws.{held_with_lem}
 use Rattle.best.specs.Moves.{Move, move_sum}
-use Rattle.best.specs.RefusalLaws.{stopped-refused, backup-large}
+use Rattle.best.proofs.RefusalLaws.{stopped-refused, backup-large}
 use Rattle.words.specs.declared.Key.{Key}
 use Rattle.text.specs.declared.Kind.{Kind}
 use Rattle.text.specs.declared.Kind.TheVariants as K
@@ -22,16 +22,16 @@ use Rattle.session.specs.Session.{Live, Session, with_held}
 use Rattle.session.specs.Running.{state_in}
 use Rattle.session.specs.Replies.{Reply, allowed, words_of, reply}
 use Rattle.session.specs.Texts.{Progress, after_line, after_lines, beginning}
-use Rattle.session_laws.specs.PlaceLaws.{model-run, in-run}
+use Rattle.session_laws.proofs.PlaceLaws.{model-run, in-run}
 use Rattle.session_laws.specs.LineAnswers.{value_line, LineAnswered, quiet, valued, backed, cutting, reducing, showing, printing, moving, counting, replaying}
 use Rattle.session_laws.specs.LineAnswers.{OneAnswer, blank, refusing, accepted, IsValue}
-use Rattle.session_laws.specs.AnswerLaws.{one_answer}
+use Rattle.session_laws.proofs.AnswerLaws.{one_answer}
 use Rattle.session_laws.specs.FoldLaws.{lines-count, after_then}
-use Rattle.session_laws.specs.KeepLaws.{lines_keep}
+use Rattle.session_laws.proofs.KeepLaws.{lines_keep}
 use Rattle.session_laws.specs.Inner.{moves_state, NoStateLine}
 use Rattle.session_laws.specs.TextRuns.{calls_of, RunOf}
-use Rattle.session_laws.specs.PrintLaws.{reply-moves}
-use Rattle.session_laws.specs.TextLaws.{Sound, text-sound, text-run, text-bellman}
+use Rattle.session_laws.proofs.PrintLaws.{reply-moves}
+use Rattle.session_laws.proofs.TextLaws.{Sound, text-sound, text-run, text-bellman}
 use Rattle.text_moves.specs.Inner.{RefusesBest, in-model, missing, stopping}
 use Rattle.text_moves.specs.Claims.{best_line, backup_line, in_hand, MovesBy}
 use Rattle.text_moves.specs.LineLaws.{best-kind, backup-kind, best-refuses}

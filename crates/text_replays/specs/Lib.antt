@@ -63,22 +63,3 @@
 pub mod Claims
 pub mod Drawings
 pub mod Inner
--- laws
-pub mod ObjectLaws
-pub mod LineLaws
-pub mod MoveLaws
-pub mod RefusalLaws
-pub mod KeepLaws
-pub mod FoldLaws
-pub mod BeginLaws
-pub mod CheckLaws
-pub mod FollowLaws
-pub mod TextReplayLaws
-pub mod DeclaringLaws
-pub mod DeclaredLaws
-pub mod NameLaws
-pub mod DrawingLaws
-pub mod DrawnLaws
-pub mod OnceLaws
-pub mod TextDidLaws
-pub mod UndeclaredLaws

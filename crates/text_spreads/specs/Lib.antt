@@ -28,9 +28,3 @@
 
 -- definitions
 pub mod Claims
--- laws
-pub mod LineLaws
-pub mod RefusalLaws
-pub mod EntryLaws
-pub mod SettledLaws
-pub mod TextSpreadLaws

@@ -7,10 +7,10 @@ use Rattle.session.specs.Running.{state_in}
 use Rattle.session.specs.Replies.{reply}
 use Rattle.session.specs.Texts.{after_lines, beginning}
 use Rattle.session_laws.specs.LineAnswers.{IsValue}
-use Rattle.session_laws.specs.TextLaws.{Sound, text-sound, text-bellman}
+use Rattle.session_laws.proofs.TextLaws.{Sound, text-sound, text-bellman}
 use Rattle.discounted.specs.Fraction.{Equal, ratio}
 use Rattle.discounted.specs.Discounted.{discounted}
-use Rattle.discounted.specs.DiscountedLaws.{bellman-over-scale}
+use Rattle.discounted.proofs.DiscountedLaws.{bellman-over-scale}
 
 -- after whatever lines, whatever line is answered (value v k w): v / w is the k-step Bellman value of the state in hand
 pub text-discounted : (ls : List (List ℕ)) (σ : Session) → σ ≡ (after_lines beginning ls).session → (number : ℕ) (s : List ℕ) (v k w : ℕ)

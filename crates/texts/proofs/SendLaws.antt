@@ -11,7 +11,7 @@ use Rattle.diagram.specs.Words.{is_listing}
 use Rattle.diagram.specs.Listing.{listing, diagram_of}
 use Rattle.diagram.specs.Listings.{is-listing-diagram, is-listing-good}
 use Rattle.diagram_form.specs.Form.{is_too_long}
-use Rattle.diagram_form.specs.FormLaws.{form-length}
+use Rattle.diagram_form.proofs.FormLaws.{form-length}
 use Rattle.answers.specs.declared.Put.{Put}
 use Rattle.answers.specs.declared.Answer.{Answer}
 use Rattle.answers.specs.declared.Answer.TheVariants.{Show, Text, Count}
@@ -23,7 +23,7 @@ use Rattle.session.specs.Session.{Session}
 use Rattle.session.specs.Running as running
 use Rattle.session.specs.Replies.{reply}
 use Rattle.session.specs.Texts.{value_form, table_of, reply_bytes}
-use Rattle.session_laws.specs.PrintLaws.{reply-shows, reply-prints, reply-counts}
+use Rattle.session_laws.proofs.PrintLaws.{reply-shows, reply-prints, reply-counts}
 use Rattle.memory.specs.declared.Numbers.{Numbers}
 use Rattle.memory.specs.declared.Said.{Said}
 use Rattle.memory.specs.Inner.{Kept, Replied}

@@ -12,7 +12,7 @@ use Rattle.refusal.specs.Outcome.{Outcome, refused}
 use Rattle.basics.specs.Tests.{and_left, and_right, Flag, is_true, is_false, flag, Cmp, below, equal, above, cmp, or-one, or-other}
 use Rattle.basics.specs.Members.{mem, clash}
 use Rattle.label.specs.Limits.{first_variable, variable_count, minimum_count, predicate_count, most_places, leaf_mark}
-use Rattle.label.specs.ArityLaws.{arity-most, arity-words}
+use Rattle.label.proofs.ArityLaws.{arity-most, arity-words}
 use Rattle.diagram.specs.Diagram.{Diagram, leaf, branch, same}
 use Rattle.diagram.specs.Rows.{rows}
 use Rattle.diagram.specs.Words.{label_at, high_at, row_count, up_to, is_listing}
@@ -27,7 +27,7 @@ use Rattle.diagram.specs.RowLists.{row_tree}
 use Rattle.diagram.specs.RowLaws.{row-mem, mem-rows, part-self, part-high, part_low, part-leaf, part-branch, PartOf, it-is, of-high, of_low}
 use Rattle.listing.specs.Used.{Used}
 use Rattle.regression.specs.RegressCall.{truth_count, truth_words, truths_of, are_listings, leaf_above, unbound_variable, check_truth, check_truths}
-use Rattle.regression.specs.RegressCallLaws.{truths-none, truths-some, listings-none, listings-cons, listings-at, checks-none, checks-cons, above-leaf, above-branch}
+use Rattle.regression.proofs.RegressCallLaws.{truths-none, truths-some, listings-none, listings-cons, listings-at, checks-none, checks-cons, above-leaf, above-branch}
 use Rattle.freeing.specs.FreeTasks.{any_set}
 use Rattle.freeing.specs.MarkLaws.{used-any}
 use Rattle.truths.specs.declared.Verdict.{Verdict}

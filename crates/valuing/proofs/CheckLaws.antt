@@ -29,7 +29,7 @@ use Rattle.state.specs.ValueCall.{most_valuations, parameters, valuations}
 use Rattle.elimination.specs.Answer.{answer_by, is_too_large, value_answer}
 use Rattle.valuing.specs.Walks.{bound_number, bound_answer, is_few, InState}
 use Rattle.valuing.specs.Tables.{tables_answer}
-use Rattle.state.specs.LentLaws.{objects-length, object-at, all_made, all-at}
+use Rattle.state.proofs.LentLaws.{objects-length, object-at, all_made, all-at}
 use Rattle.fact_index.specs.Inner.{place_count, object_at}
 use Rattle.valuing.proofs.PassedLaws.{Passed, passed_start, passed_on, passed-no, passed-all}
 

@@ -15,10 +15,10 @@ use Rattle.diagram.specs.ListingValid.{listing-is-valid}
 use Rattle.state.specs.declared.Valued.{Valued}
 use Rattle.state.specs.declared.Valued.TheVariants.{Value, Refused}
 use Rattle.state.specs.State.{meaning}
-use Rattle.minimum.specs.NumberLaws.{number_is, number-attained}
+use Rattle.minimum.proofs.NumberLaws.{number_is, number-attained}
 use Rattle.state.specs.Lent.{all_below, state_of, is_state}
 use Rattle.elimination.specs.Elimination.{most_entries, all_entries}
-use Rattle.elimination.specs.AnswerLaws.{lent-good}
+use Rattle.elimination.proofs.AnswerLaws.{lent-good}
 use Rattle.valuing.specs.Rising.{leaf_of}
 use Rattle.valuing.specs.Tables.{tables_answer, Liftable}
 use Rattle.valuing.specs.Walks.{bound_number, bound_answer, climbed, is_few}

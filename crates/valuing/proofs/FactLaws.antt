@@ -13,7 +13,7 @@ use Rattle.label.specs.Limits.{most_places}
 use Rattle.label.specs.Labels.{predicate_of, place_at}
 use Rattle.diagram.specs.WordLaws.{below-every}
 use Rattle.state.specs.Lent.{fact_count, fact_words, predicate_at, some_below}
-use Rattle.state.specs.LentLaws.{some-made, some-none}
+use Rattle.state.proofs.LentLaws.{some-made, some-none}
 use Rattle.fact_index.specs.Inner.{place_count, object_at, hash_of, bucket_for, bucket_at, indexed_count, Asks, Sought}
 use Rattle.fact_index.specs.Index.{buckets}
 use Rattle.fact_index.specs.IndexLaws.{hash-same}

@@ -19,10 +19,10 @@ use Rattle.diagram.specs.Variables.{occurs}
 use Rattle.diagram.specs.RowDiagrams.{leaf-row}
 use Rattle.diagram.specs.DiagramOfListing.{valid-rows, good-diagram}
 use Rattle.state.specs.State.{meaning}
-use Rattle.state.specs.ValueLaws.{by-low, value_same}
+use Rattle.state.proofs.ValueLaws.{by-low, value_same}
 use Rattle.state.specs.Lent.{state_of}
-use Rattle.minimum.specs.NumberLaws.{split, split-low, split-high}
-use Rattle.minimum.specs.OccurLaws.{occur-terms}
+use Rattle.minimum.proofs.NumberLaws.{split, split-low, split-high}
+use Rattle.minimum.proofs.OccurLaws.{occur-terms}
 use Rattle.listing.specs.Used.{Used}
 use Rattle.valuing.specs.Search.{free, TopsBy, lent_holds, leaf_from, Extends, Env, Topping, Hit, old, new, Best, Ready}
 use Rattle.valuing.specs.Rising.{turned, leaf_of, Beneath, Held, Settled, Topmost, Chosen, Rising, Next}

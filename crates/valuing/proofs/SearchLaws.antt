@@ -11,8 +11,8 @@ use lib.Dec.{eqb}
 use Rattle.basics.specs.Tests.{Cmp, below, equal, above, cmp, Flag, is_true, is_false, flag}
 use Rattle.label.specs.Limits.{term_end, leaf_mark, predicate_count, most_places, equality, equality_arity}
 use Rattle.label.specs.Labels.{are_arities, predicate_of, place_at, unpacked, places_of, terms_of}
-use Rattle.label.specs.LabelLaws.{label-fits, place_of, place_end}
-use Rattle.label.specs.ArityLaws.{arity-most, arity-two, arity-words, terms-length}
+use Rattle.label.proofs.LabelLaws.{label-fits, place_of, place_end}
+use Rattle.label.proofs.ArityLaws.{arity-most, arity-two, arity-words, terms-length}
 use Rattle.diagram.specs.Sizes.{highest_value}
 use Rattle.diagram.specs.Diagram.{eval}
 use Rattle.diagram.specs.Words.{label_at, high_at, low_at, row_count, every_below, equal_lists}
@@ -25,7 +25,7 @@ use Rattle.valuing.specs.declared.Lookup.{Lookup}
 use Rattle.valuing.specs.declared.Lookup.TheVariants.{Free, Bucket}
 use Rattle.state.specs.State.{equated}
 use Rattle.state.specs.Lent.{fact_count, predicate_at, objects_at, some_below, said_by, says_fact}
-use Rattle.state.specs.LentLaws.{objects-length, object-at, some_same}
+use Rattle.state.proofs.LentLaws.{objects-length, object-at, some_same}
 use Rattle.fact_index.specs.Inner.{place_count, object_at, hash_end, hash_gap, hash_start, hash_step, hash_of, bucket_for}
 use Rattle.fact_index.specs.Index.{buckets}
 use Rattle.fact_index.specs.IndexLaws.{Hashing, hashing-start, hashing-on}

@@ -22,14 +22,14 @@ use Rattle.diagram.specs.DiagramOfListing.{valid-rows, shown-rows, diagram-is}
 use Rattle.diagram.specs.ListingValid.{listing-is-valid}
 use Rattle.diagram.specs.Listings.{is-listing-good}
 use Rattle.state.specs.State.{atom_of, meaning, State, truth, holds, value, low, fixed, Fits}
-use Rattle.state.specs.ValueLaws.{low-lt, low-ge, by-low}
+use Rattle.state.proofs.ValueLaws.{low-lt, low-ge, by-low}
 use Rattle.state.specs.Inner.{Highest}
 use Rattle.state.specs.Highest.{Bound}
 use Rattle.state.specs.Lent.{all_below, constants_below, state_of, is_state}
 use Rattle.minimum.specs.Number.{Under, Number}
-use Rattle.minimum.specs.NumberLaws.{number_is, number-attained}
-use Rattle.minimum.specs.PlainLaws.{fine-plain, number-highest}
-use Rattle.elimination.specs.AnswerLaws.{lent-good}
+use Rattle.minimum.proofs.NumberLaws.{number_is, number-attained}
+use Rattle.minimum.proofs.PlainLaws.{fine-plain, number-highest}
+use Rattle.elimination.proofs.AnswerLaws.{lent-good}
 use Rattle.valuing.specs.Search.{free, Topping, TopsBy, top_by, fixed_in, Placing, Started, lent_truth, lent_holds, leaf_from, Extends, Hit, old, new, Best, Ready}
 use Rattle.valuing.proofs.SearchLaws.{end-number, tops-in-state}
 use Rattle.valuing.specs.Rising.{leaf_of, Beneath, Held, Risen, Topmost, Chosen}

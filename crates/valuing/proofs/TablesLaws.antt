@@ -12,8 +12,8 @@ use borrow.Author.Tests.{eqb-true, lt-ltb, le-ltb, not-true, not-false}
 use Rattle.basics.specs.Members.{mem, clash}
 use Rattle.label.specs.Limits.{term_end, first_variable, first_minimum, minimum_count, leaf_mark}
 use Rattle.label.specs.Labels.{predicate_of, place_at, unpacked, terms_of}
-use Rattle.label.specs.LabelLaws.{place_end}
-use Rattle.label.specs.ArityLaws.{arity-most, terms-length}
+use Rattle.label.proofs.LabelLaws.{place_end}
+use Rattle.label.proofs.ArityLaws.{arity-most, terms-length}
 use Rattle.refusal.specs.declared.Refusal.TheVariants.{Valuations}
 use Rattle.diagram.specs.Sizes.{most_rows}
 use Rattle.diagram.specs.Words.{label_at, row_count, is_listing}
@@ -26,19 +26,19 @@ use Rattle.diagram.specs.ListingValid.{listing-is-valid}
 use Rattle.diagram.specs.Listings.{is-listing-good}
 use Rattle.state.specs.declared.Valued.TheVariants.{Value, Refused}
 use Rattle.state.specs.State.{State, Good, meaning}
-use Rattle.state.specs.ValueLaws.{by-low}
+use Rattle.state.proofs.ValueLaws.{by-low}
 use Rattle.state.specs.Highest.{start, Bound}
-use Rattle.state.specs.HighestLaws.{start_fits}
+use Rattle.state.proofs.HighestLaws.{start_fits}
 use Rattle.state.specs.Lent.{all_below, state_of, is_state}
 use Rattle.rename.specs.AscendingLaws.{mem-place}
 use Rattle.listing.specs.UsedLaws.{terms-branch, row-mentioned, mentioned-occurs}
-use Rattle.minimum.specs.OccurLaws.{none-occurs}
-use Rattle.minimum.specs.PlainLaws.{number-plain, fine-plain}
+use Rattle.minimum.proofs.OccurLaws.{none-occurs}
+use Rattle.minimum.proofs.PlainLaws.{number-plain, fine-plain}
 use Rattle.elimination.specs.Elimination.{row_table, tables, root_table, entries_to, all_entries, most_entries}
 use Rattle.elimination.specs.Tables.{leaf_table}
-use Rattle.elimination.specs.RowLaws.{table_at}
-use Rattle.elimination.specs.RootLaws.{root_names, root-value}
-use Rattle.elimination.specs.AnswerLaws.{lent-good}
+use Rattle.elimination.proofs.RowLaws.{table_at}
+use Rattle.elimination.proofs.RootLaws.{root_names, root-value}
+use Rattle.elimination.proofs.AnswerLaws.{lent-good}
 use Rattle.eliminate.specs.Masks.{names_of, env_of, place_of}
 use Rattle.eliminate.specs.MaskLaws.{of_zero}
 use Rattle.eliminate.specs.Calls.{PlainLabel, set_at, start_at, Stored}

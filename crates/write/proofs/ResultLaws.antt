@@ -23,7 +23,7 @@ use Rattle.diagram.specs.Validity.{tree}
 use Rattle.diagram.specs.RowLists.{row_tree}
 use Rattle.diagram.specs.RowLaws.{rows-kept, kept-index-is}
 use Rattle.diagram.specs.Shown.{Shown, agrees, mem-tree}
-use Rattle.apply.specs.RowLaws.{rows-onto}
+use Rattle.apply.proofs.RowLaws.{rows-onto}
 use Rattle.store.proofs.SpaceLaws.{written-trees}
 use Rattle.write.specs.declared.Listed.TheVariants.{Rows, TooMany}
 use Rattle.write.specs.Numbering.{Marked, Unmarked, Unnumbered, Downward, Numbered}

@@ -1,4 +1,4 @@
-use Rattle.label.specs.OrderLaws.{compared_is}
+use Rattle.label.proofs.OrderLaws.{compared_is}
 use Rattle.label.proofs.before.Goals as goal
 
 pub returns : goal.returns

@@ -1,4 +1,4 @@
-use Rattle.label.specs.LabelLaws.{term-gap, term-high}
+use Rattle.label.proofs.LabelLaws.{term-gap, term-high}
 use Rattle.label.proofs.CodeLaws.{term-low}
 use Rattle.label.proofs.is_term.Goals as goal
 

@@ -1,5 +1,5 @@
 use native.Mathlib.Omega.{arith}
-use Rattle.label.specs.ArityLaws.{arity-most}
+use Rattle.label.proofs.ArityLaws.{arity-most}
 use Rattle.spelling.proofs.TestLaws.{predicate-there, constants-room, predicates-room, if-room, word_room, places-room, end-room, test-wrote}
 use Rattle.spelling.proofs.put_test.Goals as goal
 

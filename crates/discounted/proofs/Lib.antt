@@ -1,0 +1,3 @@
+-- The laws of the definitions in specs/, and what the proofs cite.
+pub mod DiscountedLaws
+pub mod FractionLaws

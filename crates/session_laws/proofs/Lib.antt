@@ -1,0 +1,24 @@
+-- The laws of the definitions in specs/, and what the proofs cite.
+pub mod AnswerLaws
+pub mod BlankLaws
+pub mod CaseLaws
+pub mod CountLaws
+pub mod EntryLaws
+pub mod FactLaws
+pub mod HeldLaws
+pub mod KeepLaws
+pub mod MadeLaws
+pub mod MoveLaws
+pub mod OpeningLaws
+pub mod PlaceLaws
+pub mod PrintLaws
+pub mod ReplayLaws
+pub mod ReplyLaws
+pub mod RunLaws
+pub mod ShortLaws
+pub mod StateLaws
+pub mod TableLaws
+pub mod TextLaws
+pub mod TextRunLaws
+pub mod ValueLaws
+pub mod WholeLaws
