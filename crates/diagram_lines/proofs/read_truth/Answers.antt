@@ -1,6 +1,6 @@
-use Rattle.diagram_lines.proofs.LineLaws.{line-begins}
 use Rattle.diagram_lines.proofs.TruthLaws.{becomes-arity, becomes-known, read-refused, read-drawable, read-drawn}
 use borrow.Author.Rules.{rules}
+use Rattle.diagram_lines.proofs.LineLaws.{line-begins}
 use Rattle.diagram_lines.proofs.read_truth.Goals as goal
 
 pub bounds-arities-p : goal.bounds-arities-p
@@ -24,7 +24,7 @@ returns-in-Arguments c =
     read-drawn c.requires.lent _ c.first_word-first.ensures c.head_arguments-headed.ensures c.in-Arguments.is
     c.draw_truth.ensures
 
-pub head_arguments-headed-requires-clause-arity_in_bounds : goal.head_arguments-headed-requires-clause-arity_in_bounds
-head_arguments-headed-requires-clause-arity_in_bounds c =
-    (let h = becomes-arity c.requires.lent c.args.p in
-    (line-begins c.requires.lent.line c.first_word-first.ensures, search rules)).1
+pub head_arguments-headed-requires : goal.head_arguments-headed-requires
+head_arguments-headed-requires c =
+    let h = becomes-arity c.requires.lent c.args.p in
+    record { at_in_bounds = line-begins c.requires.lent.line c.first_word-first.ensures; arity_in_bounds = search rules }

@@ -30,12 +30,10 @@ returns-in-Done c =
     variant-accepted _ _ _ _ _ _ x c.read_weight-built.ensures c.requires c.in-Done.is c.add_variant-head.ensures c.add_variant-head.auto.listings
     c.name_variant-counts.ensures _
 
-pub add_variant-head-requires-clause-rows_room : goal.add_variant-head-requires-clause-rows_room
-add_variant-head-requires-clause-rows_room c =
-    (let x = variant-named c.requires.lent.line c.first_word.ensures c.next_event-first.ensures c.key_in-key.ensures in
-    (variant-room _ _ _ _ _ _ x c.read_weight-built.ensures c.requires c.in-Done.is, variant-place _ _ _ _ _ _ x c.read_weight-built.ensures c.requires c.in-Done.is)).0
-
-pub add_variant-head-requires-clause-variant_room : goal.add_variant-head-requires-clause-variant_room
-add_variant-head-requires-clause-variant_room c =
-    (let x = variant-named c.requires.lent.line c.first_word.ensures c.next_event-first.ensures c.key_in-key.ensures in
-    (variant-room _ _ _ _ _ _ x c.read_weight-built.ensures c.requires c.in-Done.is, variant-place _ _ _ _ _ _ x c.read_weight-built.ensures c.requires c.in-Done.is)).1
+pub add_variant-head-requires : goal.add_variant-head-requires
+add_variant-head-requires c =
+    let x = variant-named c.requires.lent.line c.first_word.ensures c.next_event-first.ensures c.key_in-key.ensures in
+    record {
+      rows_room = variant-room _ _ _ _ _ _ x c.read_weight-built.ensures c.requires c.in-Done.is;
+      variant_room = variant-place _ _ _ _ _ _ x c.read_weight-built.ensures c.requires c.in-Done.is;
+    }

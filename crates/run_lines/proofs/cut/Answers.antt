@@ -1,5 +1,5 @@
 use lib.Dec.{lit≤}
-use Rattle.planner.proofs.HeldLaws.{replace-long, replace-result, cut-able, cut-wrote}
+use Rattle.planner.proofs.HeldLaws.{replace-long, replace-copies, replace-result, cut-able, cut-wrote}
 use Rattle.run_lines.proofs.CutLaws.{cut_left, cut-stays}
 use Rattle.run_lines.proofs.cut.Goals as goal
 
@@ -18,3 +18,8 @@ returns-in-Done c =
 pub returns-in-Refused : goal.returns-in-Refused
 returns-in-Refused c =
     cut-stays c.cut_checked-r.ensures.value c.in-Refused.is
+
+pub copy-requires : goal.copy-requires
+copy-requires c =
+    let h = replace-copies c.requires (cut-wrote c.requires c.cut_checked-r.ensures.value _ c.cut_checked-r.ensures.out_after c.in-Done.is) in
+    record { count_in_bounds = h.0; count_in_bounds_2 = h.1 }

@@ -1,5 +1,5 @@
 use lib.Dec.{lit≤}
-use Rattle.planner.proofs.HeldLaws.{replace-long, replace-result}
+use Rattle.planner.proofs.HeldLaws.{replace-long, replace-copies, replace-result}
 use Rattle.run_lines.proofs.ReduceLaws.{reduce-able, reduce-wrote, reduce-left, reduce-stays}
 use Rattle.run_lines.proofs.reduce.Goals as goal
 
@@ -18,3 +18,8 @@ returns-in-Done c =
 pub returns-in-Refused : goal.returns-in-Refused
 returns-in-Refused c =
     reduce-stays c.reduce_checked-r.ensures.answer c.in-Refused.is
+
+pub copy-requires : goal.copy-requires
+copy-requires c =
+    let h = replace-copies c.requires (reduce-wrote c.requires c.reduce_checked-r.ensures c.in-Done.is) in
+    record { count_in_bounds = h.0; count_in_bounds_2 = h.1 }
