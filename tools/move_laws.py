@@ -13,7 +13,7 @@ import re
 
 MOVED = {
     "acceptance": "AcceptLaws ByteLaws FormedRowLaws PairCountLaws RoomLaws RowStepLaws SessionLaws",
-    "apply": "Canon CombinationLaws FormedLaws GoodLaws OverflowLaws PairLaws RowLaws VisitLaws ZeroLaws",
+    "apply": "Course Canon CombinationLaws FormedLaws GoodLaws OverflowLaws PairLaws RowLaws VisitLaws ZeroLaws",
     "best": "BestLaws LeadLaws NumberLaws OneLaws RefusalLaws Table",
     "contradiction": "AgreeLaws ContradictionLaws ExactLaws Examples JoinLaws StateLaws",
     "cutting": "CoverLaws MatchLaws MovedLaws ReduceLaws TruthLaws",

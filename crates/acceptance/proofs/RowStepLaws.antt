@@ -9,7 +9,7 @@ use Rattle.apply.specs.declared.Operation.TheVariants.{Product}
 use Rattle.apply.specs.Apply.{node, apply}
 use Rattle.apply.specs.ApplyLaws.{node-same, node-differ, apply-leaves, apply-left, apply-right, eval-node, from-node}
 use Rattle.apply.proofs.Canon.{apply-unique}
-use Rattle.apply.specs.Course.{absorbed-left}
+use Rattle.apply.proofs.Course.{absorbed-left}
 use Rattle.apply.specs.Walk.{Below}
 use Rattle.regression.specs.Step.{label_test, exchanged}
 use Rattle.acceptance.specs.FormedRows.{other_test}

@@ -18,7 +18,7 @@ use Rattle.apply.specs.Formed.{add, formed}
 use Rattle.apply.specs.Combination.{operate}
 use Rattle.apply.specs.Walk.{Step}
 use Rattle.apply.specs.ApplyLaws.{node-same, node-differ, apply-step}
-use Rattle.apply.specs.Course.{Course, stops, descends, course, ending}
+use Rattle.apply.proofs.Course.{Course, stops, descends, course, ending}
 use Rattle.apply.proofs.PairLaws.{pair-test}
 use Rattle.apply.proofs.VisitLaws.{visit-old, visit-stop, visit-step, visit-within, pairs-within}
 use Rattle.apply.proofs.RowLaws.{rows-onto, nothing-rows, onto-closed}

@@ -15,7 +15,7 @@ use Rattle.apply.specs.Pairs.{ends, pairs, too_high, overflows}
 use Rattle.apply.specs.Combination.{operate}
 use Rattle.apply.specs.Walk.{Step, left, right, both, Walk, leaves, on, walk}
 use Rattle.apply.specs.ApplyLaws.{node-same, node-differ, apply-leaves, apply-step, ordered-apply, reduced-apply}
-use Rattle.apply.specs.Course.{Course, stops, descends, course, ending, inner-calm}
+use Rattle.apply.proofs.Course.{Course, stops, descends, course, ending, inner-calm}
 use Rattle.apply.proofs.PairLaws.{pairs-where, Where, root, by-true, by-false, pairs-alone}
 use Rattle.apply.proofs.OverflowLaws.{Overflow, overflow-found, overflow-made, calm-root, calm-true, calm-false}
 

@@ -8,3 +8,4 @@ pub mod PairLaws
 pub mod RowLaws
 pub mod VisitLaws
 pub mod ZeroLaws
+pub mod Course

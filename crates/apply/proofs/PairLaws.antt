@@ -10,7 +10,7 @@ use Rattle.diagram.specs.DiagramLaws.{same-eq, same_refl}
 use Rattle.apply.specs.declared.Operation.{Operation}
 use Rattle.apply.specs.Pairs.{Pair, same_pair, ends, descend, successor, ClosedPairs, LeastPairs, pairs, pair_count}
 use Rattle.apply.specs.Walk.{Below, Step, left, right, both}
-use Rattle.apply.specs.Course.{Course, stops, descends, course}
+use Rattle.apply.proofs.Course.{Course, stops, descends, course}
 
 pub pair-test : IsTest same_pair
 pair-test = record {

@@ -11,7 +11,7 @@ use Rattle.apply.specs.declared.Operation.{Operation}
 use Rattle.apply.specs.Pairs.{Pair, same_pair, ends, successor, ClosedPairs, LeastPairs, pairs, pair_count}
 use Rattle.apply.specs.Visit.{visit}
 use Rattle.apply.specs.Walk.{Below, Step, left, right, both, small-true, small-false}
-use Rattle.apply.specs.Course.{Course, stops, descends, course}
+use Rattle.apply.proofs.Course.{Course, stops, descends, course}
 use Rattle.apply.proofs.PairLaws.{pair-test, successor-step, pairs-root, pairs-least, in-true, in-false, least-count, Where, root, by-true, by-false, pairs-where, pairs-alone}
 
 -- the laws of `visit`: nothing else unfolds it

@@ -22,7 +22,7 @@ use Rattle.apply.specs.Formed.{formed}
 use Rattle.apply.specs.Combination.{operate, left_operand, right_operand, too_many, operand_rows, rows_formed, combination, diagram_answer}
 use Rattle.apply.specs.Inner.{absorbing, zero_pair}
 use Rattle.apply.specs.Before.{all_pairs, all_count, answer_before, recounted}
-use Rattle.apply.specs.Course.{absorbed-left, absorbed-right, absorb-left, absorb-right}
+use Rattle.apply.proofs.Course.{absorbed-left, absorbed-right, absorb-left, absorb-right}
 use Rattle.apply.proofs.PairLaws.{pair-test, pairs-root, pairs-closed, pairs-least, pairs-induct}
 use Rattle.apply.proofs.VisitLaws.{visit-within, pairs-within, visit-nodup, visit-count}
 use Rattle.apply.proofs.OverflowLaws.{overflow-found, overflow-made, overflows-less, Overflow}

@@ -56,4 +56,3 @@ pub mod Inner
 -- laws
 pub mod Walk
 pub mod ApplyLaws
-pub mod Course

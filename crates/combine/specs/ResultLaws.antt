@@ -14,7 +14,7 @@ use Rattle.apply.specs.declared.Operation.{Operation}
 use Rattle.apply.specs.Combination.{operate}
 use Rattle.apply.specs.ApplyLaws.{apply-step}
 use Rattle.apply.specs.Pairs.{overflows}
-use Rattle.apply.specs.Course.{inner-calm}
+use Rattle.apply.proofs.Course.{inner-calm}
 use Rattle.apply.proofs.OverflowLaws.{overflows-none, overflows-cons, overflows-append}
 use Rattle.apply.specs.Formed.{add, formed}
 use Rattle.apply.proofs.FormedLaws.{formed-none, formed-cons}

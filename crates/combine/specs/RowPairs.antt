@@ -18,7 +18,7 @@ use Rattle.apply.specs.Combination.{operate}
 use Rattle.apply.specs.Pairs.{Pair, same_pair, ends, too_high}
 use Rattle.apply.specs.Visit.{visit}
 use Rattle.apply.specs.Walk.{Below, Step, left, right, both}
-use Rattle.apply.specs.Course.{absorb-left, absorb-right, absorbed-left, absorbed-right}
+use Rattle.apply.proofs.Course.{absorb-left, absorb-right, absorbed-left, absorbed-right}
 use Rattle.apply.proofs.VisitLaws.{visit-old, visit-stop, visit-step}
 use Rattle.plan.specs.Walk.{is_end, pair_label, lesser, on_high, on_low, descend, finish_pairs}
 use Rattle.plan.specs.Walk as rows

@@ -17,7 +17,7 @@ use Rattle.apply.specs.Combination.{operate}
 use Rattle.apply.specs.Apply.{node, apply}
 use Rattle.apply.specs.ApplyLaws.{node-same, node-differ, apply-step}
 use Rattle.apply.specs.Pairs.{pairs, overflows}
-use Rattle.apply.specs.Course.{Course, stops, descends, course, ending}
+use Rattle.apply.proofs.Course.{Course, stops, descends, course, ending}
 use Rattle.apply.proofs.OverflowLaws.{calm-root, calm-true, calm-false}
 use Rattle.store.specs.Space.{diagrams_of, Holds}
 use Rattle.store.proofs.SpaceLaws.{formed-room}
