@@ -1,3 +1,0 @@
--- Laws for the functions' proofs.
-pub mod TestLaws
-pub mod PowerLaws

@@ -1,3 +1,0 @@
--- (start) and the lines of the run.
-pub mod Lines
-pub mod ReadyLaws

@@ -1,2 +1,0 @@
-// What (did action variant object ..) comes to, of every text. It stands in specs/.
-#![tactic(auto)]

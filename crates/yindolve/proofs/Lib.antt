@@ -1,3 +1,0 @@
-pub mod HandLaws
-pub mod EndLaws
-pub mod FinishLaws
