@@ -1,7 +1,7 @@
 use mathlib.Core.Path.{◌∙◌}
 use native.Mathlib.Omega.{arith}
-use Rattle.texts.proofs.RunLaws.{lengths-same, answering-first, of-lines, answering-lines, next-inside, answering-next, end_later}
-use Rattle.texts.proofs.CarriedLaws.{standing-first, standing-next}
+use Rattle.texts.proofs.RunLaws.{lengths-same, answering-first, of-lines, answering-lines, next-inside, answering-next, end_later, answering-done}
+use Rattle.texts.proofs.CarriedLaws.{standing-first, standing-done, standing-next}
 use Rattle.texts.proofs.answer_whole.Goals as goal
 
 pub loop-end-init : goal.loop-end-init
@@ -61,3 +61,10 @@ slice_bounds-next_line-start c =
 pub slice_bounds-next_line-end : goal.slice_bounds-next_line-end
 slice_bounds-next_line-end c =
     omega (arith, c.loop-end-test.true)
+
+pub returns : goal.returns
+returns c =
+    record {
+      reaches = answering-done c.loop-end.invariant.0 c.loop-end.invariant.2 c.loop-end-test.false;
+      carried_over = standing-done c.loop-end.invariant.0 c.loop-end.invariant.3 c.loop-end.invariant.2 c.loop-end-test.false;
+    }

@@ -15,16 +15,20 @@ put_counts-requires c =
 
 pub returns-in-Rows : goal.returns-in-Rows
 returns-in-Rows c =
-    put-rows c.requires c.printed_by-printed.ensures c.in-Rows.is (c.put_rows.ensures.placed, c.put_rows.ensures.n_len_bound)
+    let h = put-rows c.requires c.printed_by-printed.ensures c.in-Rows.is (c.put_rows.ensures.placed, c.put_rows.ensures.n_len_bound) in
+    record { placed = h.0; work_len_bound = h.1 }
 
 pub returns-in-Form : goal.returns-in-Form
 returns-in-Form c =
-    put-form c.requires c.printed_by-printed.ensures c.in-Form.is c.put_value.ensures
+    let h = put-form c.requires c.printed_by-printed.ensures c.in-Form.is c.put_value.ensures in
+    record { placed = h.0; work_len_bound = h.1 }
 
 pub returns-in-Counts : goal.returns-in-Counts
 returns-in-Counts c =
-    put-counts c.requires c.printed_by-printed.ensures c.in-Counts.is (c.put_counts.ensures.placed, c.put_counts.ensures.n_len_bound)
+    let h = put-counts c.requires c.printed_by-printed.ensures c.in-Counts.is (c.put_counts.ensures.placed, c.put_counts.ensures.n_len_bound) in
+    record { placed = h.0; work_len_bound = h.1 }
 
 pub returns-in-Line : goal.returns-in-Line
 returns-in-Line c =
-    put-line c.requires c.printed_by-printed.ensures c.in-Line.is (c.put_answer.ensures.placed, c.put_answer.ensures.answer_len_bound)
+    let h = put-line c.requires c.printed_by-printed.ensures c.in-Line.is (c.put_answer.ensures.placed, c.put_answer.ensures.answer_len_bound) in
+    record { placed = h.0; work_len_bound = h.1 }
