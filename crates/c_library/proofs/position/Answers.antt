@@ -1,0 +1,6 @@
+use Rattle.c_library.proofs.SessionLaws.{position-is}
+use Rattle.c_library.proofs.position.Goals as goal
+
+pub returns : goal.returns
+returns c =
+    position-is _ c.load-n.ensures c.lines_of-lines.ensures c.met_of-met.ensures

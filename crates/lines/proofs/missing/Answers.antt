@@ -1,0 +1,5 @@
+use Rattle.lines.proofs.missing.Goals as goal
+
+pub returns-then-b : goal.returns-then-b
+returns-then-b c =
+    rw c.if-b.true

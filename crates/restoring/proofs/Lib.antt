@@ -1,0 +1,3 @@
+-- Laws for the functions' proofs.
+pub mod TestLaws
+pub mod PowerLaws

@@ -1,0 +1,3 @@
+-- (start) and the lines of the run.
+pub mod Lines
+pub mod ReadyLaws

@@ -1,0 +1,2 @@
+// Which move (best) prints, of every text. It stands in specs/.
+#![tactic(auto)]

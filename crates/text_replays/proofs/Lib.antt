@@ -1,0 +1,19 @@
+-- The laws of the definitions in specs/, and what the proofs cite.
+pub mod BeginLaws
+pub mod CheckLaws
+pub mod DeclaredLaws
+pub mod DeclaringLaws
+pub mod DrawingLaws
+pub mod DrawnLaws
+pub mod FoldLaws
+pub mod FollowLaws
+pub mod KeepLaws
+pub mod LineLaws
+pub mod MoveLaws
+pub mod NameLaws
+pub mod ObjectLaws
+pub mod OnceLaws
+pub mod RefusalLaws
+pub mod TextDidLaws
+pub mod TextReplayLaws
+pub mod UndeclaredLaws

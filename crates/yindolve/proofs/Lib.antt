@@ -1,0 +1,3 @@
+pub mod HandLaws
+pub mod EndLaws
+pub mod FinishLaws
