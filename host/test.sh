@@ -166,18 +166,9 @@ verdict() {
 
 if [ "$part" != rest ]; then
     step cargo fmt --check
-    if [ -d ../crates/call_tests ]; then
-        step quiet cargo test --quiet --release --offline
-    else
-        echo "crates/call_tests is left out (PORTING-LEFT.md): so are the two tests that read its input and output"
-        step quiet cargo test --quiet --release --offline -- --skip answers_of_reduce --skip answers_of_value
-    fi
+    step quiet cargo test --quiet --release --offline
     step quiet cargo build --quiet --release --offline
-    if [ -f ../PORTING-LEFT.md ]; then
-        echo "crates are left out (PORTING-LEFT.md): the count of what is believed is left out too"
-    else
-        step target/release/believed --check
-    fi
+    step target/release/believed --check
     step target/release/tests self seconds "$seconds"
     step target/release/tests stored corpus
     step target/release/tests stored ../examples

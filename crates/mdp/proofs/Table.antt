@@ -1,13 +1,13 @@
 -- The ten marked cases of document 01's checklist, and cases of document 02, L13 and L12, computed from the definitions.
-use Rattle.std.specs.Prelude.{◌≡◌, refl, List, [], ◌∷◌, ℕ, ◌+◌, ◌-◌, ◌^◌, replicate}
+use Rattle.std.specs.Prelude.{◌≡◌, refl, [], ◌∷◌, ◌+◌, ◌-◌, replicate}
 use Rattle.refusal.specs.declared.Refusal.TheVariants.{Value, Scale, Nothing, Minimum, Kinds}
 use Rattle.refusal.specs.Outcome.{ok, refused, and_then}
 use Rattle.label.specs.Limits.{predicate_count, equality_arity, first_variable, first_minimum, leaf_mark}
 use Rattle.label.specs.Terms.{is_constant, is_variable}
-use Rattle.label.specs.Labels.{atom_from, terms_of, unpacked, predicate_of, packed, test_of, equates}
+use Rattle.label.specs.Labels.{terms_of, unpacked, predicate_of, packed, test_of, equates}
 use Rattle.label.specs.Renamings.{moved, renamed, mapped, placed, numbering, freeing}
 use Rattle.diagram.specs.Sizes.{highest_value}
-use Rattle.diagram.specs.Diagram.{Diagram, leaf, branch}
+use Rattle.diagram.specs.Diagram.{leaf, branch}
 use Rattle.diagram.specs.Listing.{listing}
 use Rattle.diagram.specs.Variables.{variables, closed, after}
 use Rattle.apply.specs.Apply.{apply}
@@ -17,7 +17,7 @@ use Rattle.apply.specs.declared.Operation.TheVariants.{Sum, Max}
 use Rattle.apply.specs.declared.Names.TheVariants.{Shared}
 use Rattle.apply.specs.declared.Combined.TheVariants.{Done, Refused}
 use Rattle.apply.specs.Combination.{rows_formed, combination, diagram_answer}
-use Rattle.state.specs.State.{meaning, State}
+use Rattle.state.specs.State.{meaning}
 use Rattle.minimum.specs.Number.{number}
 use Rattle.regression.specs.Step.{label_test}
 use Rattle.regression.specs.Regression.{truth_at}
@@ -26,32 +26,11 @@ use Rattle.cutting.specs.declared.Cut.TheVariants.{Done as CutDone, Refused as C
 use Rattle.cutting.specs.Cut.{diagram_answer as cut_answer}
 use Rattle.reduction.specs.Combinations.{formed as combinations_formed}
 use Rattle.reduction.specs.Reduction.{reduced_diagram, reduce_answer}
-use Rattle.mdp.specs.Model.{Model, scale}
-use Rattle.mdp.specs.Example.{for_first, no_truths, stock, run_model, everywhere, nothing_true, stock_at_hub}
+use Rattle.mdp.specs.Model.{scale}
+use Rattle.mdp.specs.Example.{for_first, stock, run_model, everywhere, nothing_true, stock_at_hub}
+use Rattle.mdp.specs.Cases.{shown, eight_model, ab, ba, linked, pair_model, path_to_zero}
 use Rattle.mdp.specs.Backup.{combined, backup}
-use Rattle.mdp.specs.Runs.{Call, a_backup, a_cut, a_reduce, run}
-
--- what (value) prints: value, k, S^k
-abbrev shown : Model → List Call → State → ℕ × ℕ × ℕ
-shown m l s = (number s [] (meaning m.arities (run m l).diagram), (run m l).steps, scale m ^ (run m l).steps)
-
--- S = 8, reward 1, one action that changes nothing
-abbrev eight_model : Model
-eight_model = record {
-  arities = equality_arity ∷ replicate (predicate_count - 1) 0;
-  total = 4;
-  numerator = 1;
-  denominator = 2;
-  reward = leaf 1;
-  actions = record { count = 0; variants = record { weight = leaf 4; truths = no_truths } ∷ [] } ∷ [];
-}
-
--- p(?a ?b) and p(?b ?a), where p is predicate 1, ?a and ?b the first two variables
-abbrev ab : ℕ
-ab = packed (atom_from 1 (first_variable ∷ (first_variable + 1) ∷ []))
-
-abbrev ba : ℕ
-ba = packed (atom_from 1 ((first_variable + 1) ∷ first_variable ∷ []))
+use Rattle.mdp.specs.Runs.{a_backup, a_cut, a_reduce, run}
 
 -- The run's three values; both cut answers; 10^18 + 0 passes and 10^18 + 1 is refused; with S = 8 the 19th backup passes and the 20th is 12; the truth
 -- diagram of p(?a ?b) testing p(?a ?b), used at p(?b ?a), is the test of p(?b ?a).
@@ -69,23 +48,6 @@ unfolding run number meaning scale cut_answer diagram_answer combination rows_fo
     backup truth_at variables closed after moved test_of equates renamed numbering freeing mapped placed packed unpacked predicate_of terms_of is_variable
 table = (refl, refl, refl, refl, refl, refl, refl, refl, refl, refl)
 
--- a reward 1 if p(?a ?a), p(?a ?b) or p(?b ?a), the last as "more", and no action
-abbrev aa : ℕ
-aa = packed (atom_from 1 (first_variable ∷ first_variable ∷ []))
-
-abbrev linked : Diagram → Diagram
-linked more = branch aa (leaf 1) (branch ab (leaf 1) more)
-
-abbrev pair_model : Model
-pair_model = record {
-  arities = equality_arity ∷ 2 ∷ replicate (predicate_count - 2) 0;
-  total = 1;
-  numerator = 0;
-  denominator = 1;
-  reward = linked (branch ba (leaf 1) (leaf 0));
-  actions = [];
-}
-
 -- What several paths do together: where p(?b ?a) holds, p(?b ?b) holds or not, and each way another path has the leaf 1. No single one covers both ways, so that a cut
 -- finds nothing (16); a reduction takes the test of p(?b ?a) away. It forms 28 combinations, those for the first valuations counted too.
 pub table-reduction : (cut_answer pair_model.arities pair_model.reward ≡ CutRefused Nothing)
@@ -94,14 +56,6 @@ pub table-reduction : (cut_answer pair_model.arities pair_model.reward ≡ CutRe
     × (combinations_formed pair_model.arities pair_model.reward ≡ 28)
 unfolding run cut_answer combinations_formed variables closed moved test_of equates renamed numbering mapped placed packed unpacked predicate_of terms_of is_constant is_variable
 table-reduction = (refl, refl, refl, refl)
-
--- p(?b ?b)
-abbrev bb : ℕ
-bb = packed (atom_from 1 ((first_variable + 1) ∷ (first_variable + 1) ∷ []))
-
--- 2 if p(?b ?b), and p(?b ?a) or not p(?a ?a)
-abbrev path_to_zero : Diagram
-path_to_zero = branch aa (branch ba (branch bb (leaf 2) (leaf 0)) (leaf 0)) (branch bb (leaf 2) (leaf 0))
 
 -- Where nothing holds every path that is followed has the leaf 0, and one of them wins too: it leads over the false edge of p(?a ?a), on which no other winning path lies.
 pub table-path-to-zero : reduced_diagram pair_model.arities path_to_zero ≡ path_to_zero

@@ -50,3 +50,4 @@ pub mod Bellman
 pub mod Backup
 pub mod Runs
 pub mod Example
+pub mod Cases
