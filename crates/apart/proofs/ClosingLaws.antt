@@ -6,9 +6,8 @@ use native.Mathlib.Omega.{arith}
 use lib.ListN.{length, take, drop}
 use lib.Seq.{length-take-le}
 use Rattle.label.specs.Limits.{first_variable, first_minimum, term_end}
-use Rattle.label.specs.Inner.{map_of, Increasing}
+use Rattle.label.specs.Inner.{map_of, Increasing, Numbered}
 use Rattle.label.specs.Renamings.{renamed, numbering, EachIn}
-use Rattle.label.proofs.RenamingLaws.{Numbered}
 use Rattle.diagram.specs.Diagram.{Diagram}
 use Rattle.diagram.specs.Rows.{onto, rows}
 use Rattle.diagram.specs.Listing.{listing, diagram_of, Good}

@@ -18,13 +18,9 @@ use Rattle.paths.specs.PathLaws.{mem-map, mem-unmap}
 use Rattle.paths.specs.Paths.{Literal, terms_in}
 use Rattle.cutting.specs.Match.{Partial, assign, agree, bind_term, then_bind, bind_terms, turned, ways, ways_to, ways_among, twice, plain_ways, targets, some_of, go_on, matches}
 use Rattle.cutting.specs.Cut.{Matched, plain, found}
-use Rattle.cutting.specs.Searchable.{AllLabels, Searchable}
+use Rattle.cutting.specs.Searchable.{AllLabels, Searchable, ExtendsPartial, Solves}
 use Rattle.label.proofs.ArityLaws.{terms-length}
 use Rattle.cutting.proofs.MovedLaws.{asks, moved-asks, asks_turned, asks-twice, label-asks, Asked, straight, across, ask-is, ask-always}
-
--- σ gives what τ knows
-pub record ExtendsPartial (σ : ℕ → ℕ) (τ : Partial) : Type 0 where
-  pub known : (t u : ℕ) → τ t ≡ some u → σ t ≡ u
 
 none-not : {A : Type 0} {B : Type 0} (a : A) → none ≡ some a → B
 none-not a e = let z : ◌≡◌ {A = ℕ} 0 1 = cc in absurd (omega arith)
@@ -284,13 +280,6 @@ pub some_in : (l : List (List ℕ)) (f : List ℕ → Bool) (us : List ℕ) → 
 some_in [] f us x'' k = elim x'' [ ]
 some_in (vs ∷ r) f us (Memᴰ.head e) k = or-one (f vs) (some_of r f) (ap f (sym e) ∙ k)
 some_in (vs ∷ r) f us (Memᴰ.tail n) k = or-other (f vs) (some_of r f) (some_in r f us n k)
-
--- a replacement beyond τ, by terms of T, that takes each literal of qs to one of ls or to t = t true
-pub record Solves (ar : List ℕ) (ls : List Literal) (T : List ℕ) (qs : List Literal) (τ : Partial) : Type 0 where
-  pub σ : ℕ → ℕ
-  pub extends : ExtendsPartial σ τ
-  pub image : (l : Literal) → Memᴰ l qs → (t : ℕ) → Memᴰ t (terms_of ar (unpacked l.label)) → Memᴰ (σ t) T
-  pub matched : (l : Literal) → Memᴰ l qs → Matched ar σ ls l
 
 or_else : Option ℕ → ℕ → ℕ
 or_else none t = t

@@ -39,10 +39,10 @@
 --   path-plain: no place of a label on its paths has a minimum variable
 --   cut-good: with at most 256 paths what is left is a good diagram, of few rows (cut-few), so that a cut never meets 9
 --
--- Searchable is for proofs: what laws of the search suppose.
+-- Searchable is for proofs: what laws of the search suppose, and what a replacement that it finds solves (Solves).
 
 pub mod Match
 pub mod Cut
 pub mod Truth
--- what laws of the search suppose
+-- what laws of the search suppose, and what it solves
 pub mod Searchable

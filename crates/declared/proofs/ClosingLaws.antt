@@ -11,9 +11,9 @@ use Rattle.label.specs.Limits.{first_variable, variable_count, first_minimum, mi
 use Rattle.label.specs.Terms.{is_term}
 use Rattle.label.specs.Labels.{are_arities, predicate_of, unpacked, terms_of}
 use Rattle.label.proofs.LabelLaws.{term-below}
-use Rattle.label.specs.Inner.{Increasing}
+use Rattle.label.specs.Inner.{Increasing, Numbered}
 use Rattle.label.specs.Renamings.{mapped, renamed, numbering, EachIn}
-use Rattle.label.proofs.RenamingLaws.{renamed-atom, renamed-label, renamed-terms, Numbered, numbering-low, numbering-variable, numbering-minimum, numbering-increasing}
+use Rattle.label.proofs.RenamingLaws.{renamed-atom, renamed-label, renamed-terms, numbering-low, numbering-variable, numbering-minimum, numbering-increasing}
 use Rattle.label.specs.declared.Atom.{Atom}
 use Rattle.diagram.specs.Diagram.{Diagram, leaf, branch, relabel, EveryLabel}
 use Rattle.diagram.specs.Variables.{occurs, variables, minimums, closed_from, closed, after}

@@ -15,7 +15,8 @@ use Rattle.label.specs.Terms.{is_term}
 use Rattle.label.specs.Labels.{are_arities, predicate_of, unpacked, terms_of}
 use Rattle.label.proofs.ArityLaws.{terms-length}
 use Rattle.label.specs.Renamings.{moved, freeing}
-use Rattle.label.proofs.RenamingLaws.{Freed, freeing-constant, freeing-parameter, freeing-variable, freeing-minimum, freeing-increasing}
+use Rattle.label.specs.Inner.{Freed}
+use Rattle.label.proofs.RenamingLaws.{freeing-constant, freeing-parameter, freeing-variable, freeing-minimum, freeing-increasing}
 use Rattle.label.specs.declared.Test.{Test}
 use Rattle.diagram.specs.Diagram.{Diagram}
 use Rattle.diagram.specs.Variables.{occurs}

@@ -21,9 +21,10 @@ use Rattle.state.specs.Terms.{args}
 use Rattle.state.specs.Highest.{vars_of}
 use Rattle.elimination.specs.Tables.{Table, sum_to, entries, join, aggregate_entries}
 use Rattle.elimination.specs.Elimination.{label_variables, most_entries}
-use Rattle.elimination.proofs.TableLaws.{Full, Named, union-full, join-named, unite-named}
+use Rattle.elimination.specs.Inner.{Full, Named, geometric}
+use Rattle.elimination.proofs.TableLaws.{union-full, join-named, unite-named}
 use Rattle.elimination.proofs.CountLaws.{label_cases, lacking, full-entries, join-entries}
-use Rattle.elimination.proofs.CaseLaws.{cases-split, geometric, aggregate-sum}
+use Rattle.elimination.proofs.CaseLaws.{cases-split, aggregate-sum}
 use Rattle.eliminate.specs.Masks.{names_of, decoded}
 use Rattle.eliminate.specs.MaskLaws.{names-zero, apart, of-ascending, of_and, of_xor, of_or}
 use Rattle.eliminate.specs.Calls.{tells, cases_of, Counted}

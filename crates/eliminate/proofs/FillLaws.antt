@@ -17,9 +17,9 @@ use Rattle.state.specs.State.{atom_of, State, Good, truth, holds, Fits}
 use Rattle.state.proofs.ValueLaws.{by-low}
 use Rattle.state.specs.Lent.{said_by}
 use Rattle.elimination.specs.Tables.{Table, join, aggregate_all}
-use Rattle.elimination.proofs.NameLaws.{Agree}
+use Rattle.elimination.specs.Inner.{Agree, Sees, Full}
 use Rattle.elimination.proofs.AboveLaws.{not-true}
-use Rattle.elimination.proofs.TableLaws.{Sees, Full, join-sees, unite-sees, aggregate_all-sees, mem-aggregate_all, union-full, union-value, aggregate-hit, aggregate-bound}
+use Rattle.elimination.proofs.TableLaws.{join-sees, unite-sees, aggregate_all-sees, mem-aggregate_all, union-full, union-value, aggregate-hit, aggregate-bound}
 use Rattle.eliminate.specs.Masks.{names_of, env_of, place_of, decoded}
 use Rattle.eliminate.specs.MaskLaws.{of-ascending}
 use Rattle.eliminate.specs.PlaceLaws.{place-less, place-one, place-decoded, decoded-length, decoded-other}

@@ -6,8 +6,7 @@ use Rattle.label.specs.Limits.{variable_count}
 use Rattle.state.specs.State.{atom_of, State}
 use Rattle.elimination.specs.Tables.{Table, join, entries, aggregate_entries}
 use Rattle.elimination.specs.Elimination.{label_variables, most_entries}
-use Rattle.elimination.proofs.TableLaws.{Full, Named}
-use Rattle.elimination.proofs.CaseLaws.{geometric}
+use Rattle.elimination.specs.Inner.{Full, Named, geometric}
 use Rattle.eliminate.specs.Masks.{names_of}
 use Rattle.eliminate.specs.Calls.{Countable, Moved}
 use Rattle.eliminate.specs.Stores.{Said, union_of}

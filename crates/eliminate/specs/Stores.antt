@@ -4,7 +4,7 @@ use Rattle.basics.specs.Members.{mem}
 use Rattle.state.specs.State.{atom_of, State, Good, Fits}
 use Rattle.state.specs.Lent.{said_by}
 use Rattle.elimination.specs.Tables.{Table, join, unite, aggregate_all}
-use Rattle.elimination.proofs.TableLaws.{Sees, Full}
+use Rattle.elimination.specs.Inner.{Sees, Full}
 use Rattle.eliminate.specs.Masks.{names_of, env_of, place_of}
 use Rattle.eliminate.specs.Calls.{set_at, start_at}
 

@@ -12,7 +12,8 @@ use Rattle.state.specs.Highest.{put, vars_of, start}
 use Rattle.state.proofs.HighestLaws.{put_same, put_other, by-eq}
 use Rattle.elimination.specs.Tables.{Table, sum_to, count_choices, without, aggregate, aggregate_entries}
 use Rattle.elimination.proofs.NameLaws.{without-ascending, mem-without, length_without}
-use Rattle.elimination.proofs.TableLaws.{Full, Named, aggregate-full}
+use Rattle.elimination.specs.Inner.{Full, Named, geometric}
+use Rattle.elimination.proofs.TableLaws.{aggregate-full}
 use Rattle.elimination.proofs.CountLaws.{sum-const, full-entries, label_cases}
 
 -- ===== Sums =====
@@ -58,11 +59,6 @@ count-agree n S p local (v ∷ vs) θ η e = ap (sum_to n) (fun_ext (λ o. count
     (λ q. put_other θ v o t q ∙ e t s (rw (ne_eqb t v q) m) ∙ sym (put_other η v o t q)))))
 
 -- ===== The entries of aggregations =====
-
--- small + small * n + .. : k terms
-unfoldable pub geometric : ℕ → ℕ → ℕ → ℕ
-geometric n small zero = 0
-geometric n small (suc k) = small * n ^ k + geometric n small k
 
 pub aggregate-sum : (s : State) (os vs : List ℕ) (x : Table) → 0 < s.size → Full x → Named x → NoDup eqb vs
     → ((t : ℕ) → mem eqb t vs ≡ true → mem eqb t x.names ≡ true) → (k : ℕ) → length x.names ≡ length vs + k

@@ -18,7 +18,8 @@ use Rattle.state.proofs.HighestLaws.{put_same, put_other, by-eq}
 use Rattle.elimination.specs.Tables.{Table, sum_to, count_choices, entries, leaf_table, is_case, join, without, aggregate}
 use Rattle.elimination.specs.Elimination.{row_entries, tables, entries_to, all_entries}
 use Rattle.elimination.proofs.NameLaws.{Whence, new, old, in-vars_of, vars_of-in, vars_of-ascending, vars_of-cons, insert-old, length_without, holds_agree}
-use Rattle.elimination.proofs.TableLaws.{Full, Named, aggregate-full}
+use Rattle.elimination.specs.Inner.{Full, Named}
+use Rattle.elimination.proofs.TableLaws.{aggregate-full}
 
 -- ===== Sums =====
 pub sum-const : (n c : ℕ) → sum_to n (λ o. c) ≡ n * c

@@ -15,6 +15,7 @@ use Rattle.state.proofs.ValueLaws.{map_same, Each-mono}
 use Rattle.state.specs.Highest.{put, insert, vars_of}
 use Rattle.state.proofs.HighestLaws.{put_same, put_other, by-eq}
 use Rattle.elimination.specs.Tables.{without}
+use Rattle.elimination.specs.Inner.{Agree}
 
 -- ===== Members =====
 
@@ -191,10 +192,6 @@ length_without n v (u ∷ us) a m = go (flag (eqb v u)) (length_without (suc u) 
     go (is_false e) ih = rw e (ap suc (ih (rw e at m)))
 
 -- ===== Valuations that agree on names =====
-
--- two valuations agree on what is no variable, and on the names
-abbrev pub Agree : List ℕ → (ℕ → ℕ) → (ℕ → ℕ) → Type 0
-Agree vs θ η = (t : ℕ) → (first_variable ≤ t → mem eqb t vs ≡ true) → θ t ≡ η t
 
 each_in : (ts : List ℕ) → Each (λ t. mem eqb t ts ≡ true) ts
 each_in [] = tt

@@ -22,10 +22,11 @@ use Rattle.state.specs.State.{Atomic, atom_of, meaning, State, Good, holds, valu
 use Rattle.state.proofs.ValueLaws.{by-low}
 use Rattle.elimination.specs.Tables.{Table, leaf_table, join, unite, aggregate_all}
 use Rattle.elimination.specs.Elimination.{label_variables, has_edge, tested_above, untested, row_join, row_union, row_drops, row_table, tables}
-use Rattle.elimination.proofs.NameLaws.{Agree, holds_agree}
+use Rattle.elimination.specs.Inner.{Agree, Sees, Named, Full}
+use Rattle.elimination.proofs.NameLaws.{holds_agree}
 use Rattle.elimination.proofs.AboveLaws.{not-true, edge-high, edge-low, tested-own, tested-on, mem-untested}
-use Rattle.elimination.proofs.TableLaws.{Sees, leaf-sees, join-sees, unite-sees, aggregate_all-sees, mem-aggregate_all, Named, join-named, unite-named}
-use Rattle.elimination.proofs.TableLaws.{aggregate_all-named, Full, leaf-full, union-full, union-value, aggregate_all-full, aggregate-hit, aggregate-bound}
+use Rattle.elimination.proofs.TableLaws.{leaf-sees, join-sees, unite-sees, aggregate_all-sees, mem-aggregate_all, join-named, unite-named}
+use Rattle.elimination.proofs.TableLaws.{aggregate_all-named, leaf-full, union-full, union-value, aggregate_all-full, aggregate-hit, aggregate-bound}
 
 -- the laws of `row_table`: nothing else unfolds it
 pub row-leaf : (s : State) (ar ws : List ℕ) (ts : List Table) (i : ℕ) → label_at ws i ≡ leaf_mark → row_table s ar ws ts i ≡ leaf_table (high_at ws i)

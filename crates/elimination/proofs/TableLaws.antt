@@ -10,7 +10,6 @@ use Rattle.std.proofs.Math.Dec.{eqb}
 use Rattle.basics.specs.Tests.{Flag, is_true, is_false, flag, or-one, or-other}
 use Rattle.basics.specs.Members.{mem, clash}
 use Rattle.label.specs.Limits.{first_variable}
-use Rattle.rename.specs.Ascending.{Ascending}
 use Rattle.state.specs.Max.{max_to}
 use Rattle.state.proofs.MaxLaws.{max_to-is}
 use Rattle.state.specs.State.{Atomic, State, Good, holds, Fits}
@@ -20,14 +19,10 @@ use Rattle.state.proofs.LentLaws.{some-made}
 use Rattle.state.specs.Highest.{put, vars_of}
 use Rattle.state.proofs.HighestLaws.{put_same, put_other, put-fits, by-eq}
 use Rattle.elimination.specs.Tables.{Table, leaf_table, is_case, join, unite, aggregate, aggregate_all}
-use Rattle.elimination.proofs.NameLaws.{Agree, vars_of-keeps, vars_of-in, vars_of-ascending, mem-without, without-ascending, holds_agree, agree-put, put_back}
+use Rattle.elimination.specs.Inner.{Agree, Sees, Named, Full}
+use Rattle.elimination.proofs.NameLaws.{vars_of-keeps, vars_of-in, vars_of-ascending, mem-without, without-ascending, holds_agree, agree-put, put_back}
 
 -- ===== What a table sees =====
-
--- the table sees only its names and what is no variable
-pub record Sees (x : Table) : Type 0 where
-  pub same-has : (θ η : ℕ → ℕ) → Agree x.names θ η → x.has θ ≡ x.has η
-  pub same-value : (θ η : ℕ → ℕ) → Agree x.names θ η → x.value θ ≡ x.value η
 
 pub leaf-sees : (v : ℕ) → Sees (leaf_table v)
 unfolding leaf_table
@@ -83,10 +78,6 @@ mem-aggregate_all n t (v ∷ vs) x =
     parted true false c = refl
     parted false b c = refl
 
--- names are variables, each once, ascending
-abbrev pub Named : Table → Type 0
-Named x = Ascending first_variable x.names
-
 pub join-named : (s : State) (b : Bool) (a : Atomic) (x : Table) → Named x → Named (join s b a x)
 unfolding join
 join-named s b a x w = vars_of-ascending (args a) x.names w
@@ -101,10 +92,6 @@ aggregate_all-named n [] x w = w
 aggregate_all-named n (v ∷ vs) x w = aggregate_all-named n vs (aggregate n v x) (without-ascending first_variable v x.names w)
 
 -- ===== Full tables =====
-
--- an entry for every choice
-abbrev pub Full : Table → Type 0
-Full x = (θ : ℕ → ℕ) → x.has θ ≡ true
 
 pub leaf-full : (v : ℕ) → Full (leaf_table v)
 unfolding leaf_table

@@ -34,7 +34,11 @@
 --   cases-split: the true and the false cases of a label are all choices for its variables; aggregate-sum: the entries of a row's aggregations
 --   entries-grow: the count grows row by row
 --   tested-own, tested-on, tested-from: what is tested above a row is what the rows with an edge to it test, and what is tested above those
+--
+-- Inner is for proofs and inner contracts: what a table sees (Sees, Agree), its names (Named), a full table (Full), the entries of aggregations (geometric).
 
 pub mod Tables
 pub mod Elimination
 pub mod Answer
+-- for proofs and inner contracts
+pub mod Inner

@@ -13,7 +13,7 @@ use Rattle.basics.specs.Members.{mem, clash}
 use Rattle.label.specs.Limits.{first_parameter, parameter_count, first_variable, first_minimum, minimum_count, term_end, equality_arity, most_places}
 use Rattle.label.specs.Terms.{is_term}
 use Rattle.label.specs.Labels.{are_arities, places_of, place_in, packed, predicate_of, unpacked, place_fits, in_order, is_atom, is_label, terms_of, equal_atom, equates, test_of, label_of}
-use Rattle.label.specs.Inner.{Increasing}
+use Rattle.label.specs.Inner.{Increasing, Numbered, Freed}
 use Rattle.label.specs.Renamings.{placed, mapped, moved, renamed, rank, numbering, freeing, EachTerm, EachIn}
 use Rattle.label.proofs.LabelLaws.{term-high, each-place, atom-same, Fitting, PlacesFit, atom-fits, fits-atom, atom-places, label-fits, label-packed, unpacked-packed, unused-zero, used-term}
 use Rattle.label.proofs.ArityLaws.{arity-two}
@@ -208,10 +208,6 @@ module _ (P : ℕ → Type 0) (ρ : ℕ → ℕ) (inc : Increasing P ρ) where
     unfolding terms_of mapped unpacked predicate_of
     renamed-terms l e p = ap (terms_of ar) (renamed-atom l e p) ∙ mapped-terms ρ (get_or ar (predicate_of l) 0) (unpacked l)
 
--- closing up and moving apart: what is no variable, the variables us, the minimum variables vs
-abbrev pub Numbered : List ℕ → List ℕ → ℕ → Type 0
-Numbered us vs t = (is_term t ≡ true) × ((t < first_variable) ⊎ (((t < first_minimum) × (mem eqb t us ≡ true)) ⊎ ((first_minimum ≤ t) × (mem eqb t vs ≡ true))))
-
 pub rank_mono : (vs : List ℕ) (t u : ℕ) → t ≤ u → rank vs t ≤ rank vs u
 rank_mono [] t u h = omega arith
 rank_mono (v ∷ vs) t u h = go (flag (ltb v t)) (flag (ltb v u)) (rank_mono vs t u h)
@@ -305,10 +301,6 @@ numbering-increasing us vs m n h room j space = record { terms = term; order = l
         go (minimum k i e) (fixed k' e') = absurd (omega arith)
         go (minimum k i e) (variable k' g' i' e') = absurd (omega arith)
         go (minimum k i e) (minimum k' i' e') = omega (arith, rank_less vs t u i l)
-
--- freeing: constants, the action's parameters, the variables that stay below the minimum variables, and these
-abbrev pub Freed : ℕ → ℕ → Type 0
-Freed c t = (is_term t ≡ true) × ((t < first_parameter + c) ⊎ ((first_variable ≤ t) × (t < first_minimum → t + c < first_minimum)))
 
 pub freeing-constant : (c t : ℕ) → t < first_parameter → freeing c t ≡ t
 unfolding freeing

@@ -1,6 +1,7 @@
 -- What contracts of inner functions and proofs cite. Nothing here has to be believed.
-use Rattle.std.specs.Prelude.{Bool, true, ◌&&◌, ◌||◌, cond, false, List, ◌≡◌, ℕ, ◌<◌, get_or, eqb, ltb}
-use Rattle.label.specs.Limits.{leaf_mark}
+use Rattle.std.specs.Prelude.{◌⊎◌, Bool, true, ◌&&◌, ◌||◌, cond, false, List, ◌≡◌, ℕ, ◌+◌, ◌≤◌, ◌<◌, get_or, eqb, ltb}
+use Rattle.basics.specs.Members.{mem}
+use Rattle.label.specs.Limits.{leaf_mark, first_parameter, first_variable, first_minimum}
 use Rattle.label.specs.Terms.{is_term}
 use Rattle.label.specs.Labels.{are_arities, is_label}
 use Rattle.label.specs.Order.{label_before}
@@ -30,3 +31,11 @@ map_of ws t = get_or ws t 0
 pub record Increasing (P : ℕ → Type 0) (ρ : ℕ → ℕ) : Type 0 where
   pub terms : (t : ℕ) → P t → is_term (ρ t) ≡ true
   pub order : (t u : ℕ) → P t → P u → t < u → ρ t < ρ u
+
+-- closing up and moving apart: what is no variable, the variables us, the minimum variables vs
+abbrev pub Numbered : List ℕ → List ℕ → ℕ → Type 0
+Numbered us vs t = (is_term t ≡ true) × ((t < first_variable) ⊎ (((t < first_minimum) × (mem eqb t us ≡ true)) ⊎ ((first_minimum ≤ t) × (mem eqb t vs ≡ true))))
+
+-- freeing: constants, the action's parameters, the variables that stay below the minimum variables, and these
+abbrev pub Freed : ℕ → ℕ → Type 0
+Freed c t = (is_term t ≡ true) × ((t < first_parameter + c) ⊎ ((first_variable ≤ t) × (t < first_minimum → t + c < first_minimum)))

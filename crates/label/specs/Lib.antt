@@ -38,6 +38,7 @@
 --   moved == what a label asks once its terms are replaced
 --   renamed == the label renamed, by a map that keeps the order of its terms
 --   map_of, Increasing == a map of terms as a list of words; a map that turns terms into terms and keeps their order
+--   Numbered, Freed == the terms that closing up and moving apart, and freeing, are such maps of
 --   EachTerm, EachIn == what is so of every term of an atom, of a label
 --   rank == how many numbers of a list are below t
 --   numbering == the variables us renamed to m, m + 1, .., the minimum variables vs to n, n + 1, .., each kind in its order: closing up, moving apart

@@ -17,8 +17,8 @@ use Rattle.paths.specs.Paths.{Literal, terms_in}
 use Rattle.cutting.specs.Match.{start, matches}
 use Rattle.cutting.specs.Cut.{Matched, plain, found}
 use Rattle.cutting.proofs.MovedLaws.{asks, moved-asks}
-use Rattle.cutting.specs.Searchable.{Searchable}
-use Rattle.cutting.proofs.MatchLaws.{Solves, matches-sound, matches-complete, in-terms}
+use Rattle.cutting.specs.Searchable.{Searchable, Solves}
+use Rattle.cutting.proofs.MatchLaws.{matches-sound, matches-complete, in-terms}
 use Rattle.cutting.proofs.CoverLaws.{start-other}
 use Rattle.matcher.proofs.CoversLaws.{of-terms}
 

@@ -9,7 +9,7 @@ use Rattle.basics.specs.Tests.{Cmp, cmp, below, equal, above}
 use Rattle.label.specs.Limits.{first_variable, variable_count, first_minimum, most_places}
 use Rattle.label.specs.Labels.{is_label, place_at, terms_of, unpacked}
 use Rattle.cutting.specs.Match.{Partial, start, matches}
-use Rattle.cutting.proofs.MatchLaws.{Solves}
+use Rattle.cutting.specs.Searchable.{Solves}
 use Rattle.paths.specs.Inner.{InRange, literal_at, literals_in}
 use Rattle.matcher.specs.Search.{segment, all_known, Met, Setting, Inside}
 use Rattle.matcher.specs.Failure.{In, Variables, Agrees, Solving, SolvePost}

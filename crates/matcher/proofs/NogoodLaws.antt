@@ -14,7 +14,8 @@ use Rattle.paths.specs.Paths.{Literal}
 use Rattle.paths.specs.Inner.{literal_at, literals_in}
 use Rattle.cutting.specs.Match.{Partial, start, agree, bind_term, then_bind, bind_terms, targets}
 use Rattle.cutting.specs.Cut.{Matched}
-use Rattle.cutting.proofs.MatchLaws.{Solves, binds-some, binds-only, target_sound, target-complete}
+use Rattle.cutting.specs.Searchable.{Solves}
+use Rattle.cutting.proofs.MatchLaws.{binds-some, binds-only, target_sound, target-complete}
 use Rattle.matcher.specs.Search.{places_in, way_place, way_places, Setting}
 use Rattle.matcher.specs.declared.Way.{Way}
 use Rattle.matcher.proofs.AlongLaws.{along-same, along-equal, along-map}

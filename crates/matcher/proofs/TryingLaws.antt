@@ -14,7 +14,7 @@ use Rattle.label.specs.Limits.{first_variable, variable_count, first_minimum, mo
 use Rattle.label.specs.Labels.{place_at}
 use Rattle.paths.specs.Inner.{literals_in}
 use Rattle.cutting.specs.Match.{Partial, start, bind_terms, go_on, matches}
-use Rattle.cutting.proofs.MatchLaws.{Solves}
+use Rattle.cutting.specs.Searchable.{Solves}
 use Rattle.matcher.specs.Search.{places_in, segment, known, Replacing, way_place, way_places, is_nothing, BindPost, TryPost, no_way, a-way, way_at, way_count, Tabled, Setting, Inside}
 use Rattle.matcher.specs.Failure.{In, Variables, Agrees, Nogood, Remembers, RememberPost, mask_of, HandedUp, Solving, SolvePost}
 use Rattle.matcher.specs.declared.Way.{Way}

@@ -4,7 +4,7 @@ use Rattle.std.specs.Prelude.{◌≡◌, Bool, true, false, List, ℕ, zero, suc
 use Rattle.label.specs.Limits.{first_variable, variable_count, first_minimum, most_places}
 use Rattle.label.specs.Labels.{place_at}
 use Rattle.cutting.specs.Match.{start, matches}
-use Rattle.cutting.proofs.MatchLaws.{Solves}
+use Rattle.cutting.specs.Searchable.{Solves}
 use Rattle.paths.specs.Inner.{AllInRange, literals_in}
 use Rattle.matcher.specs.Search.{segment, known, Replacing, Sorted, Tabled, Setting, Inside}
 use Rattle.matcher.specs.declared.Answer.{Answer}

@@ -9,7 +9,7 @@ use Rattle.basics.specs.Members.{mem}
 use Rattle.label.specs.Limits.{first_variable, variable_count, first_minimum, minimum_count}
 use Rattle.label.proofs.LabelLaws.{term-below}
 use Rattle.label.specs.Renamings.{numbering}
-use Rattle.label.proofs.RenamingLaws.{Numbered}
+use Rattle.label.specs.Inner.{Numbered}
 use Rattle.diagram.specs.Diagram.{Tree, Diagram, leaf, branch}
 use Rattle.diagram.specs.Listing.{Good as Listed}
 use Rattle.diagram.specs.Variables.{occurs, occurring, variables, minimums as minimums_of, closed_from, closed, after}

@@ -12,9 +12,9 @@ use Rattle.basics.specs.Members.{clash}
 use Rattle.label.specs.Limits.{first_parameter, parameter_count, first_variable, variable_count, first_minimum}
 use Rattle.label.specs.Terms.{is_constant, is_parameter, is_variable, is_minimum, is_term}
 use Rattle.label.specs.Labels.{are_arities, places_of, predicate_of, unpacked, is_label, terms_of}
-use Rattle.label.specs.Inner.{Increasing}
+use Rattle.label.specs.Inner.{Increasing, Freed as Freeable}
 use Rattle.label.specs.Renamings.{mapped, renamed, freeing, EachIn}
-use Rattle.label.proofs.RenamingLaws.{Freed as Freeable, freeing-increasing, renamed-atom, renamed-terms}
+use Rattle.label.proofs.RenamingLaws.{freeing-increasing, renamed-atom, renamed-terms}
 use Rattle.label.specs.declared.Atom.{Atom}
 use Rattle.diagram.specs.Sizes.{result_words, space_words}
 use Rattle.diagram.specs.Diagram.{Tree, Diagram, leaf, branch, relabel}

@@ -7,9 +7,9 @@ use Rattle.basics.specs.Members.{mem, Within}
 use Rattle.label.specs.Limits.{first_variable, variable_count, first_minimum, minimum_count}
 use Rattle.label.specs.Labels.{are_arities}
 use Rattle.label.proofs.LabelLaws.{term-below}
-use Rattle.label.specs.Inner.{Increasing}
+use Rattle.label.specs.Inner.{Increasing, Numbered}
 use Rattle.label.specs.Renamings.{rank, renamed, numbering}
-use Rattle.label.proofs.RenamingLaws.{Numbered, rank_below, numbering-low, numbering-variable, numbering-minimum, numbering-increasing}
+use Rattle.label.proofs.RenamingLaws.{rank_below, numbering-low, numbering-variable, numbering-minimum, numbering-increasing}
 use Rattle.diagram.specs.Diagram.{Diagram}
 use Rattle.diagram.specs.Rows.{rows}
 use Rattle.diagram.specs.Listing.{listing, Fine, Good}

@@ -6,9 +6,9 @@ use native.Mathlib.Omega.{arith}
 use borrow.Author.Tests.{lt-ltb, le-ltb}
 use Rattle.basics.specs.Tests.{Cmp, below, equal, above, cmp}
 use Rattle.label.specs.Limits.{first_parameter, first_variable, first_minimum}
-use Rattle.label.specs.Inner.{Increasing}
+use Rattle.label.specs.Inner.{Increasing, Freed}
 use Rattle.label.specs.Renamings.{freeing}
-use Rattle.label.proofs.RenamingLaws.{Freed, freeing-increasing, freeing-constant, freeing-parameter, freeing-variable, freeing-minimum}
+use Rattle.label.proofs.RenamingLaws.{freeing-increasing, freeing-constant, freeing-parameter, freeing-variable, freeing-minimum}
 use Rattle.diagram.specs.Diagram.{Diagram}
 use Rattle.diagram.specs.Rows.{rows}
 use Rattle.diagram.specs.Listing.{Good}

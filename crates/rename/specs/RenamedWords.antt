@@ -4,9 +4,9 @@ use Rattle.std.proofs.Common.{ap, ap₂, sym, ◌∙◌, inl, inr}
 use Rattle.basics.specs.Members.{mem}
 use Rattle.label.specs.Limits.{first_variable, first_minimum, term_end}
 use Rattle.label.proofs.LabelLaws.{term-below}
-use Rattle.label.specs.Inner.{map_of, Increasing}
+use Rattle.label.specs.Inner.{map_of, Increasing, Numbered, Freed}
 use Rattle.label.specs.Renamings.{renamed, numbering, freeing, EachIn}
-use Rattle.label.proofs.RenamingLaws.{Numbered, Freed, freeing-increasing}
+use Rattle.label.proofs.RenamingLaws.{freeing-increasing}
 use Rattle.diagram.specs.Diagram.{Diagram, relabel}
 use Rattle.diagram.specs.Listing.{listing, Good}
 use Rattle.diagram.specs.Variables.{variables, minimums}

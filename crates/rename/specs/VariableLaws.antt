@@ -9,10 +9,10 @@ use Rattle.basics.specs.Members.{mem, clash}
 use Rattle.label.specs.Limits.{first_variable, variable_count, first_minimum, minimum_count, term_end}
 use Rattle.label.specs.Terms.{is_term}
 use Rattle.label.specs.Labels.{are_arities, unpacked, terms_of}
-use Rattle.label.specs.Inner.{Increasing}
+use Rattle.label.specs.Inner.{Increasing, Numbered}
 use Rattle.label.specs.Renamings.{renamed, EachIn}
 use Rattle.label.proofs.LabelLaws.{term-below}
-use Rattle.label.proofs.RenamingLaws.{renamed-label, renamed-less, renamed-terms, Numbered}
+use Rattle.label.proofs.RenamingLaws.{renamed-label, renamed-less, renamed-terms}
 use Rattle.diagram.specs.Diagram.{Diagram, leaf, branch, relabel, EveryLabel}
 use Rattle.diagram.specs.Rows.{rows}
 use Rattle.diagram.specs.Listing.{listing, Fine, Good}

@@ -11,7 +11,8 @@ use Rattle.label.specs.Limits.{first_parameter, first_variable, first_minimum}
 use Rattle.label.specs.Terms.{is_term}
 use Rattle.label.proofs.LabelLaws.{low-term}
 use Rattle.label.specs.Renamings.{freeing}
-use Rattle.label.proofs.RenamingLaws.{Freed, freeing-increasing}
+use Rattle.label.specs.Inner.{Freed}
+use Rattle.label.proofs.RenamingLaws.{freeing-increasing}
 use Rattle.diagram.specs.Diagram.{Diagram}
 use Rattle.diagram.specs.Rows.{rows}
 use Rattle.diagram.specs.Words.{is_listing}

@@ -2,9 +2,9 @@
 use Rattle.std.specs.Prelude.{◌≡◌, List, ℕ}
 use Rattle.std.proofs.Common.{ap, sym, ◌∙◌}
 use Rattle.label.specs.Limits.{first_variable, first_minimum}
-use Rattle.label.specs.Inner.{Increasing}
+use Rattle.label.specs.Inner.{Increasing, Numbered}
 use Rattle.label.specs.Renamings.{renamed, numbering}
-use Rattle.label.proofs.RenamingLaws.{Numbered, moved-renamed}
+use Rattle.label.proofs.RenamingLaws.{moved-renamed}
 use Rattle.diagram.specs.Diagram.{Diagram, eval, relabel}
 use Rattle.diagram.specs.Listing.{Good}
 use Rattle.diagram.specs.Variables.{variables, minimums, closed_from, closed}
