@@ -145,7 +145,7 @@ readme() {
     prints "$said" cat target/readme/said
 }
 
-# What docs/REFERENCE.md says of the program: status 0 for refusals, for a full disk and for a directory; the end by a signal where the pipe is closed.
+# What docs/REFERENCE.md says of the program: status 0 for refusals, for a full disk, for a directory and where the pipe is closed.
 program_at_its_ends() {
     local status
     printf 'x\n' | "$program" >target/said || return 1
@@ -155,7 +155,7 @@ program_at_its_ends() {
     printf '\n\n' | "$program" >target/said && prints "" cat target/said || return 1
     yes '(show)' | head -n 100000 | "$program" | head -n 1 >target/said
     status=("${PIPESTATUS[@]}")
-    [ "${status[2]}" -eq 141 ] || { echo "status ${status[2]} at a closed pipe"; return 1; }
+    [ "${status[2]}" -eq 0 ] || { echo "status ${status[2]} at a closed pipe"; return 1; }
 }
 
 verdict() {
