@@ -5,7 +5,8 @@ use Rattle.cut.proofs.cut.Goals as goal
 
 pub cut_checked-requires : goal.cut_checked-requires
 cut_checked-requires c =
-    call-cuttable c.args.arities.now c.args.words.now c.args.out.now c.args.work.now c.check.ensures (not_from_true _ c.if-not-check.false) c.if-out-lt-RESULT_WORDS.false c.if-work-lt-SPACE_WORDS.false
+    let checked = not_from_true _ c.if-not-check.false in
+    call-cuttable c.args.arities.now c.args.words.now c.args.out.now c.args.work.now c.check.ensures checked c.if-out-lt-RESULT_WORDS.false c.if-work-lt-SPACE_WORDS.false
 
 pub returns-then-not-check-clause-value : goal.returns-then-not-check-clause-value
 returns-then-not-check-clause-value c =

@@ -6,7 +6,8 @@ use Rattle.cut.specs.Choosing.{Known, cover_below}
 use Rattle.cut.proofs.some_cover.Given as goal
 
 abbrev pub invariant-loop-q : goal.invariant-loop-q
-invariant-loop-q l = (length l.memo ≡ length l.initial.memo) × (length l.from ≡ length l.initial.from) × (l.q ≤ l.m) × Known l.arities l.words l.memo l.n × (cover_below l.arities l.words l.n l.sides l.side l.p l.q ≡ false)
+invariant-loop-q l = (length l.memo ≡ length l.initial.memo) × (length l.from ≡ length l.initial.from) × (l.q ≤ l.m)
+    × Known l.arities l.words l.memo l.n × (cover_below l.arities l.words l.n l.sides l.side l.p l.q ≡ false)
 
 abbrev pub decreases-loop-q : goal.decreases-loop-q
 decreases-loop-q l = l.m - l.q

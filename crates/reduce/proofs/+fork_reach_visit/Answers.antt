@@ -27,8 +27,9 @@ fork-overflow_add-known t c =
 
 pub fork-visit-a-requires : goal.fork-visit-a-requires
 fork-visit-a-requires t c =
-    let e = raw-label _ _ c.requires.fact in
-    (omega (arith, c.decreases, row-high c.requires.searching c.requires.standing e), (fork-first c.requires.searching c.requires.standing e _, further-high c.requires.searching c.requires.standing e))
+    let q = c.requires in
+    let e = raw-label _ _ q.fact in
+    (omega (arith, c.decreases, row-high q.searching q.standing e), (fork-first q.searching q.standing e _, further-high q.searching q.standing e))
 
 pub fork-shape_of-known-then-a-gt-FORMED : goal.fork-shape_of-known-then-a-gt-FORMED
 fork-shape_of-known-then-a-gt-FORMED t c =
@@ -46,9 +47,10 @@ fork-bounds-known-count-2 t c =
 
 pub fork-visit-requires : goal.fork-visit-requires
 fork-visit-requires t c =
-    let e = raw-label _ _ c.requires.fact in (
-      omega (arith, c.decreases, row_low c.requires.searching c.requires.standing e),
-      (fork-second c.requires.searching c.requires.standing e c.visit-a.ensures c.visit-a.auto.known c.visit-a.auto.wins c.if-a-gt-FORMED.false, further-low c.requires.searching c.requires.standing e),
+    let q = c.requires in
+    let e = raw-label _ _ q.fact in (
+      omega (arith, c.decreases, row_low q.searching q.standing e),
+      (fork-second q.searching q.standing e c.visit-a.ensures c.visit-a.auto.known c.visit-a.auto.wins c.if-a-gt-FORMED.false, further-low q.searching q.standing e),
     )
 
 pub fork-shape_of-known : goal.fork-shape_of-known
@@ -104,7 +106,8 @@ visit-returns-then-words-r t c =
 
 pub visit-visit-requires : goal.visit-visit-requires
 visit-visit-requires t c =
-    (omega (arith, c.decreases, row-high c.requires.searching c.requires.standing c.if-words-r.false), (c.requires.searching, standing-high c.requires.searching c.requires.standing c.if-words-r.false))
+    let q = c.requires in
+    (omega (arith, c.decreases, row-high q.searching q.standing c.if-words-r.false), (q.searching, standing-high q.searching q.standing c.if-words-r.false))
 
 pub visit-returns-then-s-eq1 : goal.visit-returns-then-s-eq1
 visit-returns-then-s-eq1 t c =

@@ -9,7 +9,9 @@ has_parameter-requires c =
 
 pub reduce_checked-requires : goal.reduce_checked-requires
 reduce_checked-requires c =
-    call-reducible c.args.arities.now c.args.words.now c.args.out.now c.args.work.now c.check.ensures (not_from_true _ c.if-not-check.false) c.if-out-lt-RESULT_WORDS.false c.if-work-lt-SPACE_WORDS.false
+    let checked = not_from_true _ c.if-not-check.false in
+    let a = c.args in
+    call-reducible a.arities.now a.words.now a.out.now a.work.now c.check.ensures checked c.if-out-lt-RESULT_WORDS.false c.if-work-lt-SPACE_WORDS.false
 
 pub returns-then-not-check-clause-value : goal.returns-then-not-check-clause-value
 returns-then-not-check-clause-value c =
@@ -37,11 +39,17 @@ returns-then-work-lt-SPACE_WORDS-clause-out_after c =
 
 pub returns-then-has_parameter-clause-value : goal.returns-then-has_parameter-clause-value
 returns-then-has_parameter-clause-value c =
-    (call-unbound c.args.arities.now c.args.words.now c.args.out.now c.args.work.now c.check.ensures (not_from_true _ c.if-not-check.false) c.if-out-lt-RESULT_WORDS.false c.if-work-lt-SPACE_WORDS.false c.has_parameter.ensures c.if-has_parameter.true).0
+    let checked = not_from_true _ c.if-not-check.false in
+    let a = c.args in
+    let found = c.has_parameter.ensures in
+    (call-unbound a.arities.now a.words.now a.out.now a.work.now c.check.ensures checked c.if-out-lt-RESULT_WORDS.false c.if-work-lt-SPACE_WORDS.false found c.if-has_parameter.true).0
 
 pub returns-then-has_parameter-clause-out_after : goal.returns-then-has_parameter-clause-out_after
 returns-then-has_parameter-clause-out_after c =
-    (call-unbound c.args.arities.now c.args.words.now c.args.out.now c.args.work.now c.check.ensures (not_from_true _ c.if-not-check.false) c.if-out-lt-RESULT_WORDS.false c.if-work-lt-SPACE_WORDS.false c.has_parameter.ensures c.if-has_parameter.true).1
+    let checked = not_from_true _ c.if-not-check.false in
+    let a = c.args in
+    let found = c.has_parameter.ensures in
+    (call-unbound a.arities.now a.words.now a.out.now a.work.now c.check.ensures checked c.if-out-lt-RESULT_WORDS.false c.if-work-lt-SPACE_WORDS.false found c.if-has_parameter.true).1
 
 pub returns-clause-value : goal.returns-clause-value
 returns-clause-value c =

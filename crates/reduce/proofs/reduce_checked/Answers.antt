@@ -43,8 +43,12 @@ overflow_mul-all c =
 
 pub returns-then-all-m-gt-RUNS : goal.returns-then-all-m-gt-RUNS
 returns-then-all-m-gt-RUNS c =
-    check-runs (c.requires) c.count_paths.ensures c.if-m-gt-PATHS.false c.has_kinds.ensures c.if-has_kinds.false c.used.ensures c.count_variables-v.ensures c.count_valuations-all.ensures c.if-all-m-gt-RUNS.true
+    let few = c.if-m-gt-PATHS.false in
+    let alike = c.if-has_kinds.false in
+    check-runs (c.requires) c.count_paths.ensures few c.has_kinds.ensures alike c.used.ensures c.count_variables-v.ensures c.count_valuations-all.ensures c.if-all-m-gt-RUNS.true
 
 pub reduce_plain-requires : goal.reduce_plain-requires
 reduce_plain-requires c =
-    check-plain (c.requires) c.count_paths.ensures c.if-m-gt-PATHS.false c.has_kinds.ensures c.if-has_kinds.false c.used.ensures c.count_variables-v.ensures c.count_valuations-all.ensures c.if-all-m-gt-RUNS.false
+    let few = c.if-m-gt-PATHS.false in
+    let alike = c.if-has_kinds.false in
+    check-plain (c.requires) c.count_paths.ensures few c.has_kinds.ensures alike c.used.ensures c.count_variables-v.ensures c.count_valuations-all.ensures c.if-all-m-gt-RUNS.false

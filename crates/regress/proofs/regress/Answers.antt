@@ -5,11 +5,15 @@ use Rattle.regress.proofs.regress.Goals as goal
 
 pub judge_all-v-requires : goal.judge_all-v-requires
 judge_all-v-requires c =
-    regress-lent _ _ _ _ c.args.out.now c.args.work.now c.check.ensures (not_from_true _ c.if-not-check.false) c.are_listed.ensures (not_from_true _ c.if-not-are_listed.false) c.if-out-lt-RESULT_WORDS.false c.if-work-lt-SPACE_WORDS.false
+    let checked = not_from_true _ c.if-not-check.false in
+    let listed = not_from_true _ c.if-not-are_listed.false in
+    regress-lent _ _ _ _ c.args.out.now c.args.work.now c.check.ensures checked c.are_listed.ensures listed c.if-out-lt-RESULT_WORDS.false c.if-work-lt-SPACE_WORDS.false
 
 pub regress_checked-requires : goal.regress_checked-requires
 regress_checked-requires c =
-    regress-regressable _ _ _ _ c.args.out.now c.args.work.now c.check.ensures (not_from_true _ c.if-not-check.false) c.are_listed.ensures (not_from_true _ c.if-not-are_listed.false) c.if-out-lt-RESULT_WORDS.false c.if-work-lt-SPACE_WORDS.false
+    let checked = not_from_true _ c.if-not-check.false in
+    let listed = not_from_true _ c.if-not-are_listed.false in
+    regress-regressable _ _ _ _ c.args.out.now c.args.work.now c.check.ensures checked c.are_listed.ensures listed c.if-out-lt-RESULT_WORDS.false c.if-work-lt-SPACE_WORDS.false
 
 pub returns-then-not-check-clause-value : goal.returns-then-not-check-clause-value
 returns-then-not-check-clause-value c =
@@ -29,36 +33,52 @@ returns-then-not-are_listed-clause-out_after c =
 
 pub returns-then-out-lt-RESULT_WORDS-clause-value : goal.returns-then-out-lt-RESULT_WORDS-clause-value
 returns-then-out-lt-RESULT_WORDS-clause-value c =
-    (regress-short _ _ _ _ c.args.out.now c.args.work.now c.check.ensures (not_from_true _ c.if-not-check.false) c.are_listed.ensures (not_from_true _ c.if-not-are_listed.false) c.if-out-lt-RESULT_WORDS.true).0
+    let checked = not_from_true _ c.if-not-check.false in
+    let listed = not_from_true _ c.if-not-are_listed.false in
+    (regress-short _ _ _ _ c.args.out.now c.args.work.now c.check.ensures checked c.are_listed.ensures listed c.if-out-lt-RESULT_WORDS.true).0
 
 pub returns-then-out-lt-RESULT_WORDS-clause-out_after : goal.returns-then-out-lt-RESULT_WORDS-clause-out_after
 returns-then-out-lt-RESULT_WORDS-clause-out_after c =
-    (regress-short _ _ _ _ c.args.out.now c.args.work.now c.check.ensures (not_from_true _ c.if-not-check.false) c.are_listed.ensures (not_from_true _ c.if-not-are_listed.false) c.if-out-lt-RESULT_WORDS.true).1
+    let checked = not_from_true _ c.if-not-check.false in
+    let listed = not_from_true _ c.if-not-are_listed.false in
+    (regress-short _ _ _ _ c.args.out.now c.args.work.now c.check.ensures checked c.are_listed.ensures listed c.if-out-lt-RESULT_WORDS.true).1
 
 pub returns-then-work-lt-SPACE_WORDS-clause-value : goal.returns-then-work-lt-SPACE_WORDS-clause-value
 returns-then-work-lt-SPACE_WORDS-clause-value c =
-    (regress-narrow _ _ _ _ c.args.out.now c.args.work.now c.check.ensures (not_from_true _ c.if-not-check.false) c.are_listed.ensures (not_from_true _ c.if-not-are_listed.false) c.if-work-lt-SPACE_WORDS.true).0
+    let checked = not_from_true _ c.if-not-check.false in
+    let listed = not_from_true _ c.if-not-are_listed.false in
+    (regress-narrow _ _ _ _ c.args.out.now c.args.work.now c.check.ensures checked c.are_listed.ensures listed c.if-work-lt-SPACE_WORDS.true).0
 
 pub returns-then-work-lt-SPACE_WORDS-clause-out_after : goal.returns-then-work-lt-SPACE_WORDS-clause-out_after
 returns-then-work-lt-SPACE_WORDS-clause-out_after c =
-    (regress-narrow _ _ _ _ c.args.out.now c.args.work.now c.check.ensures (not_from_true _ c.if-not-check.false) c.are_listed.ensures (not_from_true _ c.if-not-are_listed.false) c.if-work-lt-SPACE_WORDS.true).1
+    let checked = not_from_true _ c.if-not-check.false in
+    let listed = not_from_true _ c.if-not-are_listed.false in
+    (regress-narrow _ _ _ _ c.args.out.now c.args.work.now c.check.ensures checked c.are_listed.ensures listed c.if-work-lt-SPACE_WORDS.true).1
 
 pub returns-in-Passed-clause-value : goal.returns-in-Passed-clause-value
 returns-in-Passed-clause-value c =
-    (regress-passed _ _ _ _ c.args.out.now c.args.work.now c.check.ensures (not_from_true _ c.if-not-check.false) c.are_listed.ensures (not_from_true _ c.if-not-are_listed.false) c.if-out-lt-RESULT_WORDS.false
+    let checked = not_from_true _ c.if-not-check.false in
+    let listed = not_from_true _ c.if-not-are_listed.false in
+    (regress-passed _ _ _ _ c.args.out.now c.args.work.now c.check.ensures checked c.are_listed.ensures listed c.if-out-lt-RESULT_WORDS.false
     c.if-work-lt-SPACE_WORDS.false c.judge_all-v.ensures c.in-Passed.is (c.regress_checked.ensures.value, c.regress_checked.ensures.out_after)).0
 
 pub returns-in-Passed-clause-out_after : goal.returns-in-Passed-clause-out_after
 returns-in-Passed-clause-out_after c =
-    (regress-passed _ _ _ _ c.args.out.now c.args.work.now c.check.ensures (not_from_true _ c.if-not-check.false) c.are_listed.ensures (not_from_true _ c.if-not-are_listed.false) c.if-out-lt-RESULT_WORDS.false
+    let checked = not_from_true _ c.if-not-check.false in
+    let listed = not_from_true _ c.if-not-are_listed.false in
+    (regress-passed _ _ _ _ c.args.out.now c.args.work.now c.check.ensures checked c.are_listed.ensures listed c.if-out-lt-RESULT_WORDS.false
     c.if-work-lt-SPACE_WORDS.false c.judge_all-v.ensures c.in-Passed.is (c.regress_checked.ensures.value, c.regress_checked.ensures.out_after)).1
 
 pub returns-in-Refused-clause-value : goal.returns-in-Refused-clause-value
 returns-in-Refused-clause-value c =
-    (regress-faulty _ _ _ _ c.args.out.now c.args.work.now c.check.ensures (not_from_true _ c.if-not-check.false) c.are_listed.ensures (not_from_true _ c.if-not-are_listed.false) c.if-out-lt-RESULT_WORDS.false c.if-work-lt-SPACE_WORDS.false
+    let checked = not_from_true _ c.if-not-check.false in
+    let listed = not_from_true _ c.if-not-are_listed.false in
+    (regress-faulty _ _ _ _ c.args.out.now c.args.work.now c.check.ensures checked c.are_listed.ensures listed c.if-out-lt-RESULT_WORDS.false c.if-work-lt-SPACE_WORDS.false
     c.judge_all-v.ensures c.in-Refused.is).0
 
 pub returns-in-Refused-clause-out_after : goal.returns-in-Refused-clause-out_after
 returns-in-Refused-clause-out_after c =
-    (regress-faulty _ _ _ _ c.args.out.now c.args.work.now c.check.ensures (not_from_true _ c.if-not-check.false) c.are_listed.ensures (not_from_true _ c.if-not-are_listed.false) c.if-out-lt-RESULT_WORDS.false c.if-work-lt-SPACE_WORDS.false
+    let checked = not_from_true _ c.if-not-check.false in
+    let listed = not_from_true _ c.if-not-are_listed.false in
+    (regress-faulty _ _ _ _ c.args.out.now c.args.work.now c.check.ensures checked c.are_listed.ensures listed c.if-out-lt-RESULT_WORDS.false c.if-work-lt-SPACE_WORDS.false
     c.judge_all-v.ensures c.in-Refused.is).1

@@ -13,7 +13,9 @@ cut_checked-r-requires c =
 
 pub returns-in-Done : goal.returns-in-Done
 returns-in-Done c =
-    cut_left c.cut_checked-r.ensures.value c.in-Done.is (replace-result c.requires (cut-wrote c.requires c.cut_checked-r.ensures.value _ c.cut_checked-r.ensures.out_after c.in-Done.is) c.copy.ensures) c.copy.auto.out c.running.ensures
+    let r = c.cut_checked-r.ensures in
+    let done = c.in-Done.is in
+    cut_left r.value done (replace-result c.requires (cut-wrote c.requires r.value _ r.out_after done) c.copy.ensures) c.copy.auto.out c.running.ensures
 
 pub returns-in-Refused : goal.returns-in-Refused
 returns-in-Refused c =

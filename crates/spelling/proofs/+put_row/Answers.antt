@@ -32,18 +32,36 @@ put_test-first-requires-clause-packed_in_bounds t c =
 
 pub put_row-second-requires : goal.put_row-second-requires
 put_row-second-requires t c =
-    let h = high-less c.requires.spelt c.requires.i_bound c.if-label.false in
-    (omega (arith, c.decreases, h), (c.requires.spelt, (omega (arith, h, c.requires.i_bound), high-room c.args.out.now c.args.at c.args.behind c.requires.spelt c.requires.i_bound c.requires.behind_in_bounds c.if-label.false c.put_test-first.ensures c.put_test-first.auto.out)))
+    let a = c.args in
+    let q = c.requires in
+    let test = c.put_test-first in
+    let h = high-less q.spelt q.i_bound c.if-label.false in
+    (omega (arith, c.decreases, h), (q.spelt, (omega (arith, h, q.i_bound), high-room a.out.now a.at a.behind q.spelt q.i_bound q.behind_in_bounds c.if-label.false test.ensures test.auto.out)))
 
 pub put_row-end-requires : goal.put_row-end-requires
 put_row-end-requires t c =
-    let h = low-less c.requires.spelt c.requires.i_bound c.if-label.false in
-    (omega (arith, c.decreases, h), (c.requires.spelt, (omega (arith, h, c.requires.i_bound), low-room c.args.out.now c.args.at c.args.behind c.requires.spelt c.requires.i_bound c.requires.behind_in_bounds c.if-label.false c.put_test-first.ensures c.put_test-first.auto.out c.put_row-second.ensures c.put_row-second.auto.out)))
+    let a = c.args in
+    let q = c.requires in
+    let test = c.put_test-first in
+    let second = c.put_row-second in
+    let h = low-less q.spelt q.i_bound c.if-label.false in
+    let room = low-room a.out.now a.at a.behind q.spelt q.i_bound q.behind_in_bounds c.if-label.false test.ensures test.auto.out second.ensures second.auto.out in
+    (omega (arith, c.decreases, h), (q.spelt, (omega (arith, h, q.i_bound), room)))
 
 pub bounds-out-end-2 : goal.bounds-out-end-2
 bounds-out-end-2 t c =
-    end_below c.args.out.now c.args.at c.args.behind c.requires.spelt c.requires.i_bound c.requires.behind_in_bounds c.if-label.false c.put_test-first.ensures c.put_test-first.auto.out c.put_row-second.ensures c.put_row-second.auto.out c.put_row-end.ensures c.put_row-end.auto.out
+    let a = c.args in
+    let q = c.requires in
+    let test = c.put_test-first in
+    let second = c.put_row-second in
+    let end = c.put_row-end in
+    end_below a.out.now a.at a.behind q.spelt q.i_bound q.behind_in_bounds c.if-label.false test.ensures test.auto.out second.ensures second.auto.out end.ensures end.auto.out
 
 pub returns : goal.returns
 returns t c =
-    row_wrote c.args.out.now c.args.at c.args.behind c.requires.spelt c.requires.i_bound c.requires.behind_in_bounds c.if-label.false c.put_test-first.ensures c.put_test-first.auto.out c.put_row-second.ensures c.put_row-second.auto.out c.put_row-end.ensures c.put_row-end.auto.out
+    let a = c.args in
+    let q = c.requires in
+    let test = c.put_test-first in
+    let second = c.put_row-second in
+    let end = c.put_row-end in
+    row_wrote a.out.now a.at a.behind q.spelt q.i_bound q.behind_in_bounds c.if-label.false test.ensures test.auto.out second.ensures second.auto.out end.ensures end.auto.out

@@ -21,12 +21,21 @@ overflow_sub-root c =
 
 pub returns-then-bytes-root-gt-FORM_BYTES : goal.returns-then-bytes-root-gt-FORM_BYTES
 returns-then-bytes-root-gt-FORM_BYTES c =
-    too-many-bytes c.args.arities.now (tables_at c.args.names.now c.args.constants c.args.predicates) c.args.words.now c.requires.words_value c.count_rows.ensures.byte_counts c.if-bytes-root-gt-FORM_BYTES.true
+    let a = c.args in
+    let tables = tables_at a.names.now a.constants a.predicates in
+    let counts = c.count_rows.ensures in
+    too-many-bytes a.arities.now tables a.words.now c.requires.words_value counts.byte_counts c.if-bytes-root-gt-FORM_BYTES.true
 
 pub returns-then-brackets-root-gt-FORM_BRACKETS : goal.returns-then-brackets-root-gt-FORM_BRACKETS
 returns-then-brackets-root-gt-FORM_BRACKETS c =
-    too-many-brackets c.args.arities.now (tables_at c.args.names.now c.args.constants c.args.predicates) c.args.words.now c.requires.words_value c.count_rows.ensures.byte_counts c.count_rows.ensures.open_counts c.if-bytes-root-gt-FORM_BYTES.false c.if-brackets-root-gt-FORM_BRACKETS.true
+    let a = c.args in
+    let tables = tables_at a.names.now a.constants a.predicates in
+    let counts = c.count_rows.ensures in
+    too-many-brackets a.arities.now tables a.words.now c.requires.words_value counts.byte_counts counts.open_counts c.if-bytes-root-gt-FORM_BYTES.false c.if-brackets-root-gt-FORM_BRACKETS.true
 
 pub returns : goal.returns
 returns c =
-    not-too-many c.args.arities.now (tables_at c.args.names.now c.args.constants c.args.predicates) c.args.words.now c.requires.words_value c.count_rows.ensures.byte_counts c.count_rows.ensures.open_counts c.if-bytes-root-gt-FORM_BYTES.false c.if-brackets-root-gt-FORM_BRACKETS.false
+    let a = c.args in
+    let tables = tables_at a.names.now a.constants a.predicates in
+    let counts = c.count_rows.ensures in
+    not-too-many a.arities.now tables a.words.now c.requires.words_value counts.byte_counts counts.open_counts c.if-bytes-root-gt-FORM_BYTES.false c.if-brackets-root-gt-FORM_BRACKETS.false

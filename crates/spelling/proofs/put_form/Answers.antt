@@ -7,7 +7,9 @@ returns-then-out-at c =
 
 pub returns-then-out-at-2 : goal.returns-then-out-at-2
 returns-then-out-at-2 c =
-    form-full c.args.arities.now c.args.names.now c.args.words.now c.args.constants c.args.predicates c.requires.words_value c.args.out.now c.args.at c.requires.n_value c.if-out-at.false c.if-out-at-2.true
+    let a = c.args in
+    let q = c.requires in
+    form-full a.arities.now a.names.now a.words.now a.constants a.predicates q.words_value a.out.now a.at q.n_value c.if-out-at.false c.if-out-at-2.true
 
 pub returns : goal.returns
 returns c =

@@ -15,7 +15,9 @@ put_term-end-requires-clause-t_in_bounds c =
 
 pub loop-k-preserved : goal.loop-k-preserved
 loop-k-preserved c =
-    places-step c.requires.n_le_most_places c.requires.n_in_bounds c.loop-k.invariant c.loop-k-test.true c.put_bytes-i.ensures c.put_bytes-i.auto.out c.place.ensures c.put_term-end.ensures c.put_term-end.auto.out
+    let q = c.requires in
+    let term = c.put_term-end in
+    places-step q.n_le_most_places q.n_in_bounds c.loop-k.invariant c.loop-k-test.true c.put_bytes-i.ensures c.put_bytes-i.auto.out c.place.ensures term.ensures term.auto.out
 
 pub returns : goal.returns
 returns c =

@@ -53,7 +53,8 @@ bounds-bytes-low c =
 
 pub overflow_add-sum-3 : goal.overflow_add-sum-3
 overflow_add-sum-3 c =
-    omega (arith, test-few c.requires.spelt c.requires.i_bound c.if-label.false c.put_test-n.ensures, high-few c.requires.spelt c.requires.i_bound c.if-label.false c.requires.byte_counts, low-few c.requires.spelt c.requires.i_bound c.if-label.false c.requires.byte_counts)
+    let q = c.requires in
+    omega (arith, test-few q.spelt q.i_bound c.if-label.false c.put_test-n.ensures, high-few q.spelt q.i_bound c.if-label.false q.byte_counts, low-few q.spelt q.i_bound c.if-label.false q.byte_counts)
 
 pub returns-then-sum-gt-FORM_BYTES : goal.returns-then-sum-gt-FORM_BYTES
 returns-then-sum-gt-FORM_BYTES c =

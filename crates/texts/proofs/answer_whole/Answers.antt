@@ -23,7 +23,8 @@ next_line-r-requires-clause-work_words_in_bounds c =
 
 pub loop-end-smaller : goal.loop-end-smaller
 loop-end-smaller c =
-    omega (arith, c.loop-end-test.true, end_later c.loop-end.invariant.0 c.loop-end.invariant.2 c.loop-end-test.true c.next_line-r.ensures.steps c.next_line-r.auto.out c.next_end-end-in-loop-end.ensures)
+    let i = c.loop-end.invariant in
+    omega (arith, c.loop-end-test.true, end_later i.0 i.2 c.loop-end-test.true c.next_line-r.ensures.steps c.next_line-r.auto.out c.next_end-end-in-loop-end.ensures)
 
 pub loop-end-preserved : goal.loop-end-preserved
 loop-end-preserved c = (

@@ -28,7 +28,9 @@ work-requires c =
 
 pub returns-in_default : goal.returns-in_default
 returns-in_default c =
-    tables-over _ _ _ _ _ _ c.requires.words_value c.requires.facts_value c.requires.objects_value c.requires.plain_value (not_from_true _ c.if-not-plain.false) c.start.ensures c.work.ensures c.in_default.is
+    let plain = not_from_true _ c.if-not-plain.false in
+    let q = c.requires in
+    tables-over _ _ _ _ _ _ q.words_value q.facts_value q.objects_value q.plain_value plain c.start.ensures c.work.ensures c.in_default.is
 
 pub overflow_sub-root : goal.overflow_sub-root
 overflow_sub-root c =
@@ -52,14 +54,20 @@ bounds-heads-root c =
 
 pub offset_bounds-space-at : goal.offset_bounds-space-at
 offset_bounds-space-at c =
-    let first = root-start _ _ _ _ _ _ c.requires.words_value c.requires.facts_value c.requires.objects_value c.requires.plain_value (not_from_true _ c.if-not-plain.false) c.start.ensures c.work.ensures c.in-At.is in
+    let plain = not_from_true _ c.if-not-plain.false in
+    let q = c.requires in
+    let first = root-start _ _ _ _ _ _ q.words_value q.facts_value q.objects_value q.plain_value plain c.start.ensures c.work.ensures c.in-At.is in
     omega (arith, first, c.work.auto.space, length-replicate {A = ℕ} most_entries 0)
 
 pub bounds-space-at : goal.bounds-space-at
 bounds-space-at c =
-    let first = root-start _ _ _ _ _ _ c.requires.words_value c.requires.facts_value c.requires.objects_value c.requires.plain_value (not_from_true _ c.if-not-plain.false) c.start.ensures c.work.ensures c.in-At.is in
+    let plain = not_from_true _ c.if-not-plain.false in
+    let q = c.requires in
+    let first = root-start _ _ _ _ _ _ q.words_value q.facts_value q.objects_value q.plain_value plain c.start.ensures c.work.ensures c.in-At.is in
     omega (arith, first, c.work.auto.space, length-replicate {A = ℕ} most_entries 0)
 
 pub returns : goal.returns
 returns c =
-    tables-value _ _ _ _ _ _ c.requires.words_value c.requires.facts_value c.requires.objects_value c.requires.plain_value (not_from_true _ c.if-not-plain.false) c.start.ensures c.work.ensures c.in-At.is refl
+    let plain = not_from_true _ c.if-not-plain.false in
+    let q = c.requires in
+    tables-value _ _ _ _ _ _ q.words_value q.facts_value q.objects_value q.plain_value plain c.start.ensures c.work.ensures c.in-At.is refl

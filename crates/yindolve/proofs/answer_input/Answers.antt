@@ -61,7 +61,8 @@ keep_rest-rest-requires c =
 
 pub loop-open-smaller : goal.loop-open-smaller
 loop-open-smaller c =
-    run-less c.loop-open.invariant.0 c.loop-open-test.true c.refill-f.ensures c.refill-f.auto.block (omega (arith, c.requires.most_bytes_in_bounds, c.loop-open.invariant.1.buffer)) c.answer_whole-r.ensures.reaches
+    let i = c.loop-open.invariant in
+    run-less i.0 c.loop-open-test.true c.refill-f.ensures c.refill-f.auto.block (omega (arith, c.requires.most_bytes_in_bounds, i.1.buffer)) c.answer_whole-r.ensures.reaches
     c.write-t.ensures c.keep_rest-rest.ensures c.keep_rest-rest.auto.block c.is_open-open.ensures
 
 pub loop-open-preserved : goal.loop-open-preserved
