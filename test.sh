@@ -44,8 +44,7 @@ failures() {
 # The other host tests, their own verdict to $host_log. rt ci builds the program but not the static library, which is built beside the tests that do not need it.
 host_tests() {
     { (cd crates/c_library && rt lib) >"$library_log" 2>&1; echo $? >"$library_status"; } &
-    export YINDOLVE_LIBRARY_STATUS=$library_status
-    bash host/test.sh --rest crates/yindolve/out/yindolve 10 2>&1 | tee "$host_log" | sed -u '$s/^/host tests: /'
+    YINDOLVE_LIBRARY_STATUS=$library_status bash host/test.sh --rest crates/yindolve/out/yindolve 10 2>&1 | tee "$host_log" | sed -u '$s/^/host tests: /'
     wait
     [ "$(cat "$library_status")" = 0 ] || tail -n 20 "$library_log"
 }

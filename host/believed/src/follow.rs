@@ -111,16 +111,16 @@ impl Reached {
                     fields.sort();
                     self.records.entry(fields).or_insert(format!("{place}: line {line}"));
                 }
-                Used::Name(path, line) => match names.resolve(&path) {
-                    Some(thing) => found.push(thing),
+                Used::Name(path, line) => match (names.resolve(&path), names.resolve(&path[..1])) {
+                    (Some(thing), _) => found.push(thing),
                     // Fields of what a name in front stands for.
-                    None if path.len() > 1 && names.resolve(&path[..1]).is_some() => {
-                        found.extend(names.resolve(&path[..1]));
+                    (None, Some(front)) => {
+                        found.push(front);
                         for field in &path[1..] {
                             self.field(place, field.clone(), line);
                         }
                     }
-                    None => {
+                    (None, None) => {
                         self.faults.insert(format!("{place}: line {line}: {} is not found", path.join(".")));
                     }
                 },
@@ -219,7 +219,7 @@ impl Reached {
                 let thing = Thing::Spec(krate.clone(), home.clone(), name.clone());
                 match repository.declaration(krate, &home, name).map(|found| found.kind) {
                     None => {
-                        self.faults.insert(format!("there is no {name} in crates/{krate}/specs/{file}.antt"));
+                        self.faults.insert(format!("there is no {name} in {file}.antt of crates/{krate}"));
                         Vec::new()
                     }
                     Some(Kind::Plain) => self.names_of(repository, &thing, true),

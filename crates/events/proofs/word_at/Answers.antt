@@ -8,7 +8,6 @@ use Rattle.words.specs.ByteLaws.{run-le}
 use Rattle.events.proofs.FrontCode.{word-long, word-short}
 use Rattle.events.proofs.word_at.Goals as goal
 
--- `events::word_at` meets its contract. Assumes nothing.
 -- the name lies within the bytes
 room : (c : goal.Else-n-gt15) → c.name_run-n.result ≤ length c.rest-t.result.now
 room c = omega (arith, c.name_run-n.ensures, run-le is_name_byte c.rest-t.result.now)

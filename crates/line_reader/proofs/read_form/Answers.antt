@@ -9,7 +9,6 @@ use Rattle.line_reader.proofs.LineCode.{form-none, form-refused, form-whole, for
 use Rattle.line_reader.proofs.read_form.Goals as goal
 use Rattle.line_reader.proofs.read_form.Goals.{In-Bytes}
 
--- `line_reader::read_form` meets its contract. Assumes nothing.
 -- the key word lies within the bytes, and has at most 15
 room : (c : In-Bytes)
     → (c.in-Bytes.n ≤ length c.args.s.now) × (c.in-Bytes.n ≤ 15)

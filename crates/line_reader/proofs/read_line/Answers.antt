@@ -7,7 +7,6 @@ use Rattle.text.specs.LineUnique.{line-answer}
 use Rattle.line_reader.proofs.LineCode.{line-long, line-none, line-form}
 use Rattle.line_reader.proofs.read_line.Goals as goal
 
--- `line_reader::read_line` meets its contract. Assumes nothing.
 -- the bracket is there
 room : (c : goal.Else-byte_at-ne40) → 1 ≤ length c.args.s.now
 room c = inside c.args.s.now 0 40 (sym c.byte_at.ensures ∙ c.if-byte_at-ne40.false) (omega arith)

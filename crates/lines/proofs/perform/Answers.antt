@@ -2,7 +2,6 @@ use Rattle.lines.proofs.KindLaws.{told-model, told-change, told-ask}
 use Rattle.lines.proofs.AnswerLaws.{ready-as, model-ready, objects-answers, is-answers, tell-answers, value-answers, bad-answers}
 use Rattle.run_lines.specs.ReadyLaws.{value-task}
 use Rattle.state_lines.specs.LineLaws.{for-objects, for-is, for-true}
-use borrow.Author.Rules.{rules}
 use Rattle.lines.proofs.perform.Goals as goal
 
 pub objects-requires : goal.objects-requires

@@ -4,7 +4,6 @@ use Rattle.lines.proofs.AnswerLaws.{ready-as, constant-answers, predicate-answer
 use Rattle.lines.proofs.AnswerLaws.{variant-answers, becomes-answers}
 use Rattle.declaration_lines.specs.LineLaws.{for-constant, for-predicate, for-total, for-discount, for-action}
 use Rattle.diagram_lines.specs.ReadyLaws.{reward-ready, variant-ready, becomes-ready}
-use borrow.Author.Rules.{rules}
 use Rattle.lines.proofs.perform_model.Goals as goal
 
 pub constant-requires : goal.constant-requires

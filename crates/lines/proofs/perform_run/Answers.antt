@@ -4,7 +4,6 @@ use Rattle.lines.proofs.AnswerLaws.{ready-as, start-answers, backup-answers, cut
 use Rattle.lines.proofs.AnswerLaws.{count-answers, did-answers}
 use Rattle.desk_lines.specs.ReadyLaws.{best-task, count-task, did-task}
 use Rattle.run_lines.specs.ReadyLaws.{start-task, backup-task, cut-task, reduce-task, text-task}
-use borrow.Author.Rules.{rules}
 use Rattle.lines.proofs.perform_run.Goals as goal
 
 pub start-requires : goal.start-requires

@@ -1,5 +1,4 @@
 use lib.Dec.{lit≤}
-use mathlib.Core.Path.{sym}
 use Rattle.valuing.specs.WalkLaws.{topping-room, prepared}
 use Rattle.replay_step.proofs.WeightLaws.{high-room, high-kept, climb-refused, climb-none}
 use Rattle.replay_step.proofs.is_weightless.Goals as goal

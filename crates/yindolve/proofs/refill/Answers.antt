@@ -1,5 +1,4 @@
-use borrow.Author.Rules.{rules}
-use Rattle.yindolve.proofs.HandLaws.{refill-whole, refill-room, refill-read}
+use Rattle.yindolve.proofs.HandLaws.{refill-read}
 use Rattle.yindolve.proofs.refill.Goals as goal
 
 pub returns : goal.returns
