@@ -14,15 +14,14 @@ use Rattle.label.specs.Limits.{leaf_mark}
 use Rattle.diagram.specs.Words.{label_at, high_at, low_at}
 use Rattle.cutting.specs.declared.Edge.{Edge}
 use Rattle.answers.specs.declared.Answer.{Answer}
-use Rattle.answers.specs.declared.Answer.TheVariants.{Value, Backup, Cut, Reduce, Refused, Show, Text, Best, Count, Did, Nothing}
-use Rattle.answers.specs.declared.Put.{Put}
-use Rattle.answers.specs.declared.Put.TheVariants.{At, Full}
+use Rattle.answers.specs.declared.Answer.TheVariants.{Value, Backup, Cut, Reduce, Refused, Best, Did}
 use Rattle.answers.specs.Answers.{field, fields, name_field, edge_field, leaf_field, line_end, answer_line, row_line, row_line_at, count_line_at}
 use Rattle.answers.specs.Answers.{value_head, backup_head, cut_head, reduce_head, best_head, count_head, did_head, refused_head, row_head}
 use Rattle.answers.specs.Inner.{line_bytes, put_answer, put_result, Placed}
 use Rattle.answering.specs.Wrote.{Wrote, WroteWithin}
 use Rattle.answering.proofs.WriteLaws.{wrote_nothing, one_field, three-fields, four-fields, of_word, wider, wrote-more}
 use Rattle.answering.proofs.KeyLaws.{name-short}
+use Rattle.std.specs.Prelude.{None, Option, Some}
 
 -- the line of three parts
 pub reduce-parts : {s s₁ s₂ s' a : List ℕ} {i j r : ℕ} → line_bytes ≤ length s → Wrote s 0 reduce_head i s₁ → WroteWithin s₁ i a 21 j s₂ → Wrote s₂ j line_end r s'
@@ -125,37 +124,25 @@ pub line-best : {s s' : List ℕ} {r : ℕ} {answer : Answer} {k : Key} {n a b c
 unfolding answer_line
 line-best e w = rw e w
 
-pub line-show : (s : List ℕ) {answer : Answer} {n : ℕ} → answer ≡ Show n → WroteWithin s 0 (answer_line answer) line_bytes 0 s
-unfolding answer_line
-line-show s e = rw e (record { wrote = wrote_nothing s 0; within = omega arith })
-
-pub line-text : (s : List ℕ) {answer : Answer} {n : ℕ} → answer ≡ Text n → WroteWithin s 0 (answer_line answer) line_bytes 0 s
-unfolding answer_line
-line-text s e = rw e (record { wrote = wrote_nothing s 0; within = omega arith })
-
-pub line-count : (s : List ℕ) {answer : Answer} {n m : ℕ} → answer ≡ Count n m → WroteWithin s 0 (answer_line answer) line_bytes 0 s
-unfolding answer_line
-line-count s e = rw e (record { wrote = wrote_nothing s 0; within = omega arith })
-
-pub line-none : (s : List ℕ) {answer : Answer} → answer ≡ Nothing → WroteWithin s 0 (answer_line answer) line_bytes 0 s
-unfolding answer_line
-line-none s e = rw e (record { wrote = wrote_nothing s 0; within = omega arith })
+-- an answer without a line
+pub line-none : (s : List ℕ) (answer : Answer) → answer_line answer ≡ [] → WroteWithin s 0 (answer_line answer) line_bytes 0 s
+line-none s answer e = rw e (record { wrote = wrote_nothing s 0; within = omega arith })
 
 -- bytes put where there is room
-pub placed-full : (s w : List ℕ) (place : ℕ) → length s < place + length w → Placed s place w Full s
+pub placed-full : (s w : List ℕ) (place : ℕ) → length s < place + length w → Placed s place w None s
 unfolding put_answer put_result
 placed-full s w place h = record {
   answer = rw (lt-leb (place + length w) (length s) h);
   result = rw (lt-leb (place + length w) (length s) h);
 }
 
-pub placed_past : (s w : List ℕ) {place : ℕ} → length s < place → Placed s place w Full s
+pub placed_past : (s w : List ℕ) {place : ℕ} → length s < place → Placed s place w None s
 placed_past s w {place} h = placed-full s w place (omega arith)
 
-pub placed-short : (s w : List ℕ) {place : ℕ} → place ≤ length s → length s - place < length w → Placed s place w Full s
+pub placed-short : (s w : List ℕ) {place : ℕ} → place ≤ length s → length s - place < length w → Placed s place w None s
 placed-short s w {place} h l = placed-full s w place (omega arith)
 
-pub placed_at : {s w s' : List ℕ} {place r : ℕ} → place ≤ length s → length w ≤ length s - place → Wrote s place w r s' → Placed s place w (At r) s'
+pub placed_at : {s w s' : List ℕ} {place r : ℕ} → place ≤ length s → length w ≤ length s - place → Wrote s place w r s' → Placed s place w (Some r) s'
 unfolding put_answer put_result
 placed_at {s} {w} {s'} {place} {r} h l p =
     let g : place + length w ≤ length s = omega arith in
@@ -174,5 +161,5 @@ line-room e p = omega (arith, p.wrote.behind, p.within)
 pub line_taken : {s w s' : List ℕ} {n : ℕ} → length s' ≡ line_bytes → WroteWithin s 0 w line_bytes n s' → n ≡ length (take n s')
 line_taken {s} {w} {s'} {n} e p = sym (length-take-le n s' (line-room e p))
 
-pub placed-line : {s s' line line' : List ℕ} (w : List ℕ) {place n : ℕ} {r : Put} → WroteWithin line 0 w line_bytes n line' → Placed s place (take n line') r s' → Placed s place w r s'
+pub placed-line : {s s' line line' : List ℕ} (w : List ℕ) {place n : ℕ} {r : Option ℕ} → WroteWithin line 0 w line_bytes n line' → Placed s place (take n line') r s' → Placed s place w r s'
 placed-line {s} {s'} w {place} {n} {r} p y = subst (λ (x : List ℕ). Placed s place x r s') (line-bytes p) y

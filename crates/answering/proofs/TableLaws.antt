@@ -10,8 +10,6 @@ use lib.Dec.{leb}
 use lib.ListN.{length, get_or, take, length-append}
 use Rattle.diagram.specs.Sizes.{most_rows}
 use Rattle.answers.specs.declared.Answer.TheVariants.{Show}
-use Rattle.answers.specs.declared.Put.{Put}
-use Rattle.answers.specs.declared.Put.TheVariants.{At, Full}
 use Rattle.answers.specs.Answers.{row_line_at, row_lines, count_line_at, count_lines, answer_bytes}
 use Rattle.answers.specs.Inner.{line_bytes, put_answer, put_result, Placed}
 use Rattle.answers.specs.Writing.{IsWord, most_bytes}
@@ -22,6 +20,7 @@ use Rattle.answering.specs.Wrote.{Wrote, WroteWithin}
 use Rattle.answering.specs.Tables.{Holds, table_line, table_lines}
 use Rattle.answering.proofs.WriteLaws.{wrote_nothing, wrote_then}
 use Rattle.answering.proofs.LineLaws.{placed-full, placed_at, line-bytes}
+use Rattle.std.specs.Prelude.{None, Option, Some}
 
 -- a line of a table
 module _ {s s' : List ℕ} {r : ℕ} (ws : List ℕ) (k : ℕ) {t : Table} where
@@ -75,16 +74,16 @@ pub record LinesPlace (t : Table) (ws : List ℕ) (n place limit k end : ℕ) : 
 pub end-start : (t : Table) (ws : List ℕ) (n : ℕ) {place limit : ℕ} → place ≤ limit → LinesPlace t ws n place limit 0 place
 end-start t ws n h = record { within = omega arith; here = omega (arith, ap length (lines_none t ws)); room = h }
 
-put_full : (limit place : ℕ) (w : List ℕ) → limit < place + length w → Full ≡ put_answer limit place w
+put_full : (limit place : ℕ) (w : List ℕ) → limit < place + length w → None ≡ put_answer limit place w
 unfolding put_answer
 put_full limit place w h = rw (lt-leb (place + length w) limit h)
 
-pub end-past : (t : Table) (ws : List ℕ) (n : ℕ) {place limit : ℕ} → limit < place → Full ≡ put_answer limit place (table_lines t ws n)
+pub end-past : (t : Table) (ws : List ℕ) (n : ℕ) {place limit : ℕ} → limit < place → None ≡ put_answer limit place (table_lines t ws n)
 end-past t ws n {place} {limit} h = put_full limit place (table_lines t ws n) (omega arith)
 
 module _ {t : Table} {ws line line' : List ℕ} {n place limit k end m : ℕ} (x : LinesPlace t ws n place limit k end) (h : k < n)
     (w : WroteWithin line 0 (table_line t ws k) line_bytes m line') where
-  pub end-full : limit - end < m → Full ≡ put_answer limit place (table_lines t ws n)
+  pub end-full : limit - end < m → None ≡ put_answer limit place (table_lines t ws n)
   end-full l =
       let g = lines-below t ws k n h in
       put_full limit place (table_lines t ws n) (omega (arith, x.here, x.room, w.wrote.behind, lines-length t ws k))
@@ -93,7 +92,7 @@ module _ {t : Table} {ws line line' : List ℕ} {n place limit k end m : ℕ} (x
   end_more l =
       record { within = omega arith; here = omega (arith, x.here, w.wrote.behind, lines-length t ws k); room = omega (arith, x.room) }
 
-pub end-done : {t : Table} {ws : List ℕ} {n place limit k end : ℕ} → LinesPlace t ws n place limit k end → n ≤ k → At end ≡ put_answer limit place (table_lines t ws n)
+pub end-done : {t : Table} {ws : List ℕ} {n place limit k end : ℕ} → LinesPlace t ws n place limit k end → n ≤ k → Some end ≡ put_answer limit place (table_lines t ws n)
 unfolding put_answer
 end-done {t} {ws} {n} {place} {limit} {k} {end} x h =
     let e : k ≡ n = omega (arith, x.within) in
@@ -133,32 +132,32 @@ lines-done {t} {s} {ws} {s₁} {n} {place} {k} {end} x h =
     let e : k ≡ n = omega (arith, x.within) in
     rw (← e) x.wrote
 
-full_at : {n : ℕ} → Full ≡ At n → ⊥
+full_at : {n : ℕ} → None ≡ Some n → ⊥
 full_at e = let z : ◌≡◌ {A = ℕ} 0 1 = cc in omega arith
 
 -- lines measured, then put
-module _ (s w : List ℕ) (place : ℕ) {x : Put} (p : x ≡ put_answer (length s) place w) where
-  pub measured-full : x ≡ Full → Placed s place w Full s
+module _ (s w : List ℕ) (place : ℕ) {x : Option ℕ} (p : x ≡ put_answer (length s) place w) where
+  pub measured-full : x ≡ None → Placed s place w None s
   unfolding put_result put_answer
   measured-full e = go (leb (place + length w) (length s)) refl
     where
-      go : (b : Bool) → leb (place + length w) (length s) ≡ b → Placed s place w Full s
-      go true q = absurd (full_at (sym e ∙ p ∙ ap (λ (b : Bool). cond b (At (place + length w)) Full) q))
+      go : (b : Bool) → leb (place + length w) (length s) ≡ b → Placed s place w None s
+      go true q = absurd (full_at (sym e ∙ p ∙ ap (λ (b : Bool). cond b (Some (place + length w)) None) q))
       go false q = placed-full s w place (leb-false (place + length w) (length s) q)
 
-  pub measured-room : {n : ℕ} → x ≡ At n → place + length w ≤ length s
+  pub measured-room : {n : ℕ} → x ≡ Some n → place + length w ≤ length s
   unfolding put_answer
   measured-room {n} e = go (leb (place + length w) (length s)) refl
     where
       go : (b : Bool) → leb (place + length w) (length s) ≡ b → place + length w ≤ length s
       go true q = leb-true (place + length w) (length s) q
-      go false q = absurd (full_at (sym (sym e ∙ p ∙ ap (λ (b : Bool). cond b (At (place + length w)) Full) q)))
+      go false q = absurd (full_at (sym (sym e ∙ p ∙ ap (λ (b : Bool). cond b (Some (place + length w)) None) q)))
 
-  pub measured-at : {s' : List ℕ} {n r : ℕ} → x ≡ At n → Wrote s place w r s' → Placed s place w (At r) s'
+  pub measured-at : {s' : List ℕ} {n r : ℕ} → x ≡ Some n → Wrote s place w r s' → Placed s place w (Some r) s'
   measured-at e q = let g = measured-room e in placed_at (omega arith) (omega arith) q
 
 -- the rows of a listing, and a spread; their bytes at most
-module _ {s s' : List ℕ} (ws : List ℕ) {place : ℕ} (n : ℕ) {r : Put} (g : (i : ℕ) → IsWord (get_or ws i 0)) where
+module _ {s s' : List ℕ} (ws : List ℕ) {place : ℕ} (n : ℕ) {r : Option ℕ} (g : (i : ℕ) → IsWord (get_or ws i 0)) where
   pub rows-put : Placed s place (row_lines ws n) r s' → Placed s place (row_lines ws n) r s' × (n ≤ most_rows → length (row_lines ws n) ≤ most_bytes)
   unfolding answer_bytes
   rows-put p = (p, λ h. answer-short ws [] [] (Show n) g h tt)

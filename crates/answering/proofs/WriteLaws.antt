@@ -1,11 +1,11 @@
 -- Laws of bytes written one after another.
 use Prim.Native.Nat.{ℕ, suc, ◌+◌, ◌/◌, ◌%◌, ◌≤◌, ◌<◌}
-use mathlib.Core.Path.{◌≡◌, sym, ap, subst, ◌∙◌}
+use mathlib.Core.Path.{◌≡◌, sym, ap, ◌∙◌}
 use mathlib.Core.List.{List, [], ◌∷◌, ◌++◌, append_assoc, append-nil}
 use native.Mathlib.Omega.{arith}
 use native.Mathlib.Numerals.{add-one}
 use lib.ListN.{length, get_or, set, take, drop, length-append, take-append-drop}
-use lib.Seq.{set_split, set_at, drop-cons, length-take-le, append_snoc, take-suc, take_all, take_at, drop-append-add, drop-drop}
+use lib.Seq.{set_split, set_at, drop-cons, length-take-le, append_snoc, take_at, drop-append-add, drop-drop}
 use Rattle.answers.specs.Digits.{digits}
 use Rattle.answers.specs.DigitLaws.{digits-one, digits_more, digits-some, digits-short}
 use Rattle.cutting.specs.declared.Edge.{Edge}
@@ -17,9 +17,6 @@ use Rattle.answering.specs.Wrote.{Wrote, WroteWithin}
 module _ (s : List ℕ) (place : ℕ) where
   pub wrote_nothing : Wrote s place [] place s
   wrote_nothing = record { behind = omega arith; bytes = rw (append-nil (take place s)) (sym (take-append-drop place s)) }
-
-  wrote-from : {r : ℕ} → r ≡ place → Wrote s place [] r s
-  wrote-from e = rw e wrote_nothing
 
   pub one_byte : (b : ℕ) → place < length s → Wrote s place (b ∷ []) (place + 1) (set s place b)
   one_byte b h = record { behind = omega arith; bytes = rw (add-one place) (set_split s place b h ∙ sym (append_snoc (take place s) b (drop (suc place) s))) }
@@ -54,24 +51,6 @@ wrote_then {s} {v} {s₁} {w} {s₂} {place} {q} {r} h x y =
   where
     shape : (a b c d : List ℕ) → ((a ++ b) ++ c) ++ d ≡ (a ++ (b ++ c)) ++ d
     shape a b c d = simp append_assoc
-
--- bytes of a word, one after another
-pub bytes-start : (s word : List ℕ) (place : ℕ) → Wrote s place (take 0 word) (place + 0) s
-bytes-start s [] place = wrote-from s place (omega arith)
-bytes-start s (b ∷ word) place = wrote-from s place (omega arith)
-
-pub bytes-more : {s s₁ : List ℕ} (word : List ℕ) {place i : ℕ} → place + length word ≤ length s → i < length word → Wrote s place (take i word) (place + i) s₁
-    → Wrote s place (take (i + 1) word) (place + (i + 1)) (set s₁ (place + i) (get_or word i 0))
-bytes-more {s} {s₁} word {place} {i} room h p =
-    let e : place + (i + 1) ≡ place + i + 1 = omega arith in
-    rw (e, add-one i, take-suc word i 0 h) (more_byte s place (take i word) (place + i) (get_or word i 0) s₁ (omega arith) p)
-
-pub bytes-end : {s s₁ : List ℕ} (word : List ℕ) {place i : ℕ} → length word ≤ i → i ≤ length word → Wrote s place (take i word) (place + i) s₁
-    → Wrote s place word (place + length word) s₁
-bytes-end {s} {s₁} word {place} {i} h l p =
-    let e : i ≡ length word = omega arith in
-    let t : take i word ≡ word = take_all i word h in
-    rw (← e) (subst (λ (w : List ℕ). Wrote s place w (place + i) s₁) t p)
 
 -- a number's digits
 number-below : {s s₁ : List ℕ} {place v i : ℕ} → place + length (digits v) ≤ length s → 9 < v → Wrote s place (digits (v / 10)) i s₁ → i < length s

@@ -13,7 +13,7 @@ ghost use Rattle.answering.specs.Wrote.{Wrote, WroteWithin};
 ghost use Rattle.answering.specs.Tables.{Holds, table_line, table_lines};
 ghost use Rattle.answering.specs.Printing.{printed_by};
 
-use answers::{Answer, Put};
+use answers::Answer;
 use cutting::Edge;
 use label::Label;
 use words::Key;
@@ -42,12 +42,9 @@ pub fn put_bytes(out: &mut [u8], at: usize, word: &[u8]) -> usize
     requires { at + length word.now ≤ length out.old }
     ensures { Wrote out.old at word.now result out.new }
 {
-    let mut i = 0;
-    while i < word.len() {
-        out[at + i] = word[i];
-        i += 1;
-    }
-    at + word.len()
+    let end = at + word.len();
+    out[at..end].copy_from_slice(word);
+    end
 }
 
 // Writes the digits of a number, the highest first.
@@ -56,11 +53,11 @@ pub fn put_number(out: &mut [u8], at: usize, v: u64) -> usize
     ensures { Wrote out.old at (digits v) result out.new }
 {
     if v <= 9 {
-        out[at] = v as u8 + 48;
+        out[at] = v as u8 + b'0';
         return at + 1;
     }
     let i = put_number(out, at, v / 10);
-    out[i] = (v % 10) as u8 + 48;
+    out[i] = (v % 10) as u8 + b'0';
     i + 1
 }
 
@@ -103,13 +100,11 @@ fn put_objects(out: &mut [u8], at: usize, objects: &[u8], n: usize) -> usize
     ensures { WroteWithin out.old at (fields (take n objects.now)) (length objects.now * 4) result out.new }
 {
     let mut end = at;
-    let mut i = 0;
-    while i < objects.len() {
+    for (i, object) in objects.iter().enumerate() {
         if i == n {
             return end;
         }
-        end = put_field(out, end, objects[i] as u64);
-        i += 1;
+        end = put_field(out, end, u64::from(*object));
     }
     end
 }
@@ -257,49 +252,43 @@ fn answer_line(line: &mut [u8], answer: Answer) -> usize
         Answer::Cut(row, edge, rows) => cut_line(line, row, edge, rows),
         Answer::Reduce(rows) => reduce_line(line, rows),
         Answer::Refused(why, number) => pair_line(line, b"(refused", why.number(), number),
-        Answer::Show(_) => 0,
-        Answer::Text(_) => 0,
         Answer::Best(action, n, a, b, c, d) => best_line(line, action, n, a, b, c, d),
-        Answer::Count(_, _) => 0,
         Answer::Did(count, total) => pair_line(line, b"(did", count, total),
-        Answer::Nothing => 0,
+        Answer::Show(_) | Answer::Text(_) | Answer::Count(_, _) | Answer::Nothing => 0,
     }
 }
 
 // Puts bytes at a place, if there is room.
-fn put_line(out: &mut [u8], at: usize, line: &[u8]) -> Put
+fn put_line(out: &mut [u8], at: usize, line: &[u8]) -> Option<usize>
     ensures { Placed out.old at line.now result out.new }
 {
     if out.len() < at {
-        return Put::Full;
+        return None;
     }
     if out.len() - at < line.len() {
-        return Put::Full;
+        return None;
     }
-    let end = put_bytes(out, at, line);
-    Put::At(end)
+    Some(put_bytes(out, at, line))
 }
 
 // The place behind the first n lines of a table, if they have room below the limit.
-fn lines_end(table: Table, words: &[u64], n: usize, at: usize, limit: usize) -> Put
+fn lines_end(table: Table, words: &[u64], n: usize, at: usize, limit: usize) -> Option<usize>
     requires { Holds table n words.now }
     ensures { result ≡ put_answer limit at (table_lines table words.now n) }
 {
     if limit < at {
-        return Put::Full;
+        return None;
     }
     let mut line = [0u8; LINE_BYTES];
     let mut end = at;
-    let mut k = 0;
-    while k < n {
+    for k in 0..n {
         let m = table_line(&mut line, table, words, k);
         if limit - end < m {
-            return Put::Full;
+            return None;
         }
         end += m;
-        k += 1;
     }
-    Put::At(end)
+    Some(end)
 }
 
 // Writes the first n lines of a table.
@@ -310,29 +299,24 @@ fn write_lines(out: &mut [u8], at: usize, table: Table, words: &[u64], n: usize)
 {
     let mut line = [0u8; LINE_BYTES];
     let mut end = at;
-    let mut k = 0;
-    while k < n {
+    for k in 0..n {
         let m = table_line(&mut line, table, words, k);
         end = put_bytes(out, end, &line[..m]);
-        k += 1;
     }
     end
 }
 
 // Puts the first n lines of a table, if there is room for all.
-fn put_table(out: &mut [u8], at: usize, table: Table, words: &[u64], n: usize) -> Put
+fn put_table(out: &mut [u8], at: usize, table: Table, words: &[u64], n: usize) -> Option<usize>
     requires { Holds table n words.now }
     ensures { Placed out.old at (table_lines table words.now n) result out.new }
 {
-    let Put::At(_) = lines_end(table, words, n, at, out.len()) else {
-        return Put::Full;
-    };
-    let end = write_lines(out, at, table, words, n);
-    Put::At(end)
+    lines_end(table, words, n, at, out.len())?;
+    Some(write_lines(out, at, table, words, n))
 }
 
 // Puts the lines of the first n rows of a listing, if there is room for all; as many rows as a listing may have have at most MOST_BYTES.
-pub fn put_rows(out: &mut [u8], at: usize, words: &[u64], n: usize) -> Put
+pub fn put_rows(out: &mut [u8], at: usize, words: &[u64], n: usize) -> Option<usize>
     requires { n * 3 ≤ length words.now }
     ensures placed { Placed out.old at (row_lines words.now n) result out.new }
     ensures n_len_bound { n ≤ most_rows → length (row_lines words.now n) ≤ most_bytes }
@@ -341,7 +325,7 @@ pub fn put_rows(out: &mut [u8], at: usize, words: &[u64], n: usize) -> Put
 }
 
 // Puts the first n lines of a spread, if there is room for all; as many lines as a listing may have rows have at most MOST_BYTES.
-pub fn put_counts(out: &mut [u8], at: usize, table: &[u64], n: usize) -> Put
+pub fn put_counts(out: &mut [u8], at: usize, table: &[u64], n: usize) -> Option<usize>
     requires { n * 2 ≤ length table.now }
     ensures placed { Placed out.old at (count_lines table.now n) result out.new }
     ensures n_len_bound { n ≤ most_rows → length (count_lines table.now n) ≤ most_bytes }
@@ -350,7 +334,7 @@ pub fn put_counts(out: &mut [u8], at: usize, table: &[u64], n: usize) -> Put
 }
 
 // Puts the line of an answer, if there is room; it has at most LINE_BYTES.
-pub fn put_answer(out: &mut [u8], at: usize, answer: Answer) -> Put
+pub fn put_answer(out: &mut [u8], at: usize, answer: Answer) -> Option<usize>
     ensures placed { Placed out.old at (answer_line answer) result out.new }
     ensures answer_len_bound { length (answer_line answer) ≤ line_bytes }
 {
@@ -364,16 +348,9 @@ pub fn printed_by(answer: Answer) -> Printed
     ensures { result ≡ printed_by answer }
 {
     match answer {
-        Answer::Value(_, _, _) => Printed::Line,
-        Answer::Backup(_, _) => Printed::Line,
-        Answer::Cut(_, _, _) => Printed::Line,
-        Answer::Reduce(_) => Printed::Line,
-        Answer::Refused(_, _) => Printed::Line,
         Answer::Show(rows) => Printed::Rows(rows),
         Answer::Text(bytes) => Printed::Form(bytes),
-        Answer::Best(_, _, _, _, _, _) => Printed::Line,
         Answer::Count(_, lines) => Printed::Counts(lines),
-        Answer::Did(_, _) => Printed::Line,
-        Answer::Nothing => Printed::Line,
+        _ => Printed::Line,
     }
 }

@@ -13,7 +13,7 @@
 --   most_bytes == 92,160, the bytes of any answer at most
 --   IsWord, IsByte, OfWords == a machine word, a byte; an answer of these, with at most 1,024 rows to show and as many lines of a spread
 --   Plain == no form and no spread is to be printed
---   Put, put_answer, put_result == the place behind bytes that are put at a place of a buffer, or that there is no room; the buffer then
+--   put_answer, put_result == the place behind bytes that are put at a place of a buffer, or that there is no room; the buffer then
 --
 -- Theorems
 --   digits-read: the digits of a number read back as it

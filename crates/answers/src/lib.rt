@@ -25,10 +25,3 @@ pub enum Answer {
     Did(u64, u64),
     Nothing,
 }
-
-// The place behind what was put, or that there is no room for it.
-#[derive(Clone, Copy)]
-pub enum Put {
-    At(usize),
-    Full,
-}

@@ -36,15 +36,12 @@ use Rattle.apply.specs.declared.Combined.TheVariants.{Refused}
 use Rattle.apply.specs.Apply.{apply}
 use Rattle.apply.specs.Combination.{operate, combination, too_many, operand_rows, diagram_answer, written}
 use Rattle.apply.proofs.CombinationLaws.{rows-formed, diagrams-variables}
-use Rattle.store.specs.declared.Formed.{Formed}
-use Rattle.store.specs.declared.Formed.TheVariants.{Row, Full}
 use Rattle.store.specs.Space.{diagrams_of, Formation}
 use Rattle.store.proofs.SpaceLaws.{length-diagrams, diagram-at, diagrams-none, holds-none, formation-row, formation-full, formation-tree, formation-old}
 use Rattle.combine.specs.Calls.{Callable, CombineAnswered}
-use Rattle.apart.specs.declared.Aside.{Aside}
-use Rattle.apart.specs.declared.Aside.TheVariants.{From, TooMany}
 use Rattle.apart.specs.Operands.{Enterable, aside_of, Separable}
 use Rattle.apart.specs.Results.{Joinable, result_answer, joined_answer, JoinedUp}
+use Rattle.std.specs.Prelude.{None, Option, Some}
 
 -- the laws of closing up and moving apart by name
 closed_is : (ar : List ℕ) (d : Diagram) → closed_from ar first_variable first_minimum d ≡ closed ar d
@@ -114,21 +111,21 @@ module _ {ar x y used_x used_y : List ℕ} {first minimum : ℕ} {out work : Lis
     holds = holds-none work (replicate n₁ 0) (replicate n₂ 0) (omega (arith, g.call.work-room)) (rw length-replicate k) (clean-made n₁ h);
   }
 
-  module _ {r₁ : Formed} {s₁ h₁ l₁ : List ℕ}
+  module _ {r₁ : Option (ℕ × ℕ)} {s₁ h₁ l₁ : List ℕ}
       (f : Formation (closed_from ar first_variable first_minimum D) (onto (closed_from ar first_variable first_minimum D) (diagrams_of work 0)) r₁ s₁ h₁ l₁) where
     first-formed : Formation A (onto A []) r₁ s₁ h₁ l₁
     first-formed =
         subst (λ (d : Diagram). Formation d (onto d []) r₁ s₁ h₁ l₁) (closed_is ar D)
         (subst (λ (rs : List Diagram). Formation (closed_from ar first_variable first_minimum D) (onto (closed_from ar first_variable first_minimum D) rs) r₁ s₁ h₁ l₁) (diagrams-none work) f)
 
-    pub moved-full : (op : Operation) → r₁ ≡ Full → CombineAnswered op Apart ar x y out (Refused Space) out
+    pub moved-full : (op : Operation) → r₁ ≡ None → CombineAnswered op Apart ar x y out (Refused Space) out
     moved-full op e =
-        let z = formation-full (subst (λ (r : Formed). Formation A (onto A []) r s₁ h₁ l₁) e first-formed) in
+        let z = formation-full (subst (λ (r : Option (ℕ × ℕ)). Formation A (onto A []) r s₁ h₁ l₁) e first-formed) in
         absurd (omega (arith, few-a))
 
-    module _ {i n : ℕ} (e : r₁ ≡ Row i n) where
-      first-row : Formation A (onto A []) (Row i n) s₁ h₁ l₁
-      first-row = subst (λ (r : Formed). Formation A (onto A []) r s₁ h₁ l₁) e first-formed
+    module _ {i n : ℕ} (e : r₁ ≡ Some (i, n)) where
+      first-row : Formation A (onto A []) (Some (i, n)) s₁ h₁ l₁
+      first-row = subst (λ (r : Option (ℕ × ℕ)). Formation A (onto A []) r s₁ h₁ l₁) e first-formed
 
       first_rows : diagrams_of s₁ n ≡ onto A []
       first_rows = (formation-row first-row).3
@@ -142,21 +139,21 @@ module _ {ar x y used_x used_y : List ℕ} {first minimum : ℕ} {out work : Lis
         holds = first-row.holds;
       }
 
-      module _ {r₂ : Formed} {s₂ h₂ l₂ : List ℕ}
+      module _ {r₂ : Option (ℕ × ℕ)} {s₂ h₂ l₂ : List ℕ}
           (f' : Formation (closed_from ar first minimum E) (onto (closed_from ar first minimum E) (diagrams_of s₁ n)) r₂ s₂ h₂ l₂) where
         second-formed : Formation B (onto B (onto A [])) r₂ s₂ h₂ l₂
         second-formed =
             subst (λ (d : Diagram). Formation d (onto d (onto A [])) r₂ s₂ h₂ l₂) (ap₂ (λ (m n : ℕ). closed_from ar m n E) g.first-is g.minimum-is ∙ after_is ar D E)
             (subst (λ (rs : List Diagram). Formation (closed_from ar first minimum E) (onto (closed_from ar first minimum E) rs) r₂ s₂ h₂ l₂) first_rows f')
 
-        pub moved-full-2 : (op : Operation) → r₂ ≡ Full → CombineAnswered op Apart ar x y out (Refused Space) out
+        pub moved-full-2 : (op : Operation) → r₂ ≡ None → CombineAnswered op Apart ar x y out (Refused Space) out
         moved-full-2 op e' =
-            let z = formation-full (subst (λ (r : Formed). Formation B (onto B (onto A [])) r s₂ h₂ l₂) e' second-formed) in
+            let z = formation-full (subst (λ (r : Option (ℕ × ℕ)). Formation B (onto B (onto A [])) r s₂ h₂ l₂) e' second-formed) in
             absurd (omega (arith, few-b))
 
-        module _ {j m : ℕ} (e' : r₂ ≡ Row j m) where
-          second-row : Formation B (onto B (onto A [])) (Row j m) s₂ h₂ l₂
-          second-row = subst (λ (r : Formed). Formation B (onto B (onto A [])) r s₂ h₂ l₂) e' second-formed
+        module _ {j m : ℕ} (e' : r₂ ≡ Some (j, m)) where
+          second-row : Formation B (onto B (onto A [])) (Some (j, m)) s₂ h₂ l₂
+          second-row = subst (λ (r : Option (ℕ × ℕ)). Formation B (onto B (onto A [])) r s₂ h₂ l₂) e' second-formed
 
           second-rows : diagrams_of s₂ m ≡ onto B (onto A [])
           second-rows = (formation-row second-row).3
@@ -239,12 +236,12 @@ module _ (used_x used_y : List ℕ) where
   pub minimums-fit : {n m : ℕ} → n ≡ marked_minimums used_x → m ≡ marked_minimums used_y → Fits w64 (n + m)
   minimums-fit p q = omega (arith, minimums-most used_x, minimums-most used_y)
 
-  pub aside-variables : {n m : ℕ} → n ≡ marked_variables used_x → m ≡ marked_variables used_y → variable_count < n + m → TooMany ≡ aside_of used_x used_y
+  pub aside-variables : {n m : ℕ} → n ≡ marked_variables used_x → m ≡ marked_variables used_y → variable_count < n + m → None ≡ aside_of used_x used_y
   unfolding aside_of
   aside-variables p q h = rw (lt-ltb variable_count (marked_variables used_x + marked_variables used_y) (omega arith))
 
   pub aside-minimums : {n m k l : ℕ} → n ≡ marked_variables used_x → m ≡ marked_variables used_y → n + m ≤ variable_count
-      → k ≡ marked_minimums used_x → l ≡ marked_minimums used_y → minimum_count < k + l → TooMany ≡ aside_of used_x used_y
+      → k ≡ marked_minimums used_x → l ≡ marked_minimums used_y → minimum_count < k + l → None ≡ aside_of used_x used_y
   unfolding aside_of
   aside-minimums p q h r s i = rw (
     le-ltb variable_count (marked_variables used_x + marked_variables used_y) (omega arith),
@@ -252,7 +249,7 @@ module _ (used_x used_y : List ℕ) where
   )
 
   pub aside-from : {n m k l : ℕ} → n ≡ marked_variables used_x → m ≡ marked_variables used_y → n + m ≤ variable_count
-      → k ≡ marked_minimums used_x → l ≡ marked_minimums used_y → k + l ≤ minimum_count → From (first_variable + n) (first_minimum + k) ≡ aside_of used_x used_y
+      → k ≡ marked_minimums used_x → l ≡ marked_minimums used_y → k + l ≤ minimum_count → Some ((first_variable + n), (first_minimum + k)) ≡ aside_of used_x used_y
   unfolding aside_of
   aside-from p q h r s i = rw (
     le-ltb variable_count (marked_variables used_x + marked_variables used_y) (omega arith),
@@ -263,12 +260,12 @@ module _ (used_x used_y : List ℕ) where
 
 -- `combine_apart`
 module _ {ar x y out work : List ℕ} (g : Callable ar x y out work) {used_x used_y : List ℕ} (u : Used ar (diagram_of x) used_x) (v : Used ar (diagram_of y) used_y)
-    {s : Aside} (p : s ≡ aside_of used_x used_y) where
+    {s : Option (ℕ × ℕ)} (p : s ≡ aside_of used_x used_y) where
   abbrev many : Bool
   many = too_many Apart ar (diagram_of x) (diagram_of y)
 
   -- the marks judge as the diagrams do
-  judged : s ≡ cond many TooMany (From (first_variable + length (variables ar (diagram_of x))) (first_minimum + length (minimums ar (diagram_of x))))
+  judged : s ≡ cond many None (Some ((first_variable + length (variables ar (diagram_of x))), (first_minimum + length (minimums ar (diagram_of x)))))
   unfolding aside_of
   judged =
       p ∙ rw (
@@ -278,27 +275,29 @@ module _ {ar x y out work : List ℕ} (g : Callable ar x y out work) {used_x use
         marked-minimums ar (diagram_of y) used_y v,
       )
 
-  pub apart-many : (op : Operation) → s ≡ TooMany → CombineAnswered op Apart ar x y out (Refused Variables) out
+  pub apart-many : (op : Operation) → s ≡ None → CombineAnswered op Apart ar x y out (Refused Variables) out
   apart-many op e = go (flag many)
     where
       go : Flag many → CombineAnswered op Apart ar x y out (Refused Variables) out
       go (is_true h) = record { answer = sym (diagrams-variables op Apart ar (diagram_of x) (diagram_of y) h); words = refl }
-      go (is_false h) = absurd (let d : s ≡ From _ _ = rw h at judged in let z : ◌≡◌ {A = ℕ} 0 1 = cc in omega arith)
+      go (is_false h) = absurd (let d : s ≡ Some (_, _) = rw h at judged in let z : ◌≡◌ {A = ℕ} 0 1 = cc in omega arith)
 
-  pub apart-separable : {first minimum : ℕ} → s ≡ From first minimum → Separable ar x y used_x used_y first minimum out work
+  pub apart-separable : {first minimum : ℕ} → s ≡ Some (first, minimum) → Separable ar x y used_x used_y first minimum out work
   apart-separable {first} {minimum} e = go (flag many)
     where
       go : Flag many → Separable ar x y used_x used_y first minimum out work
-      go (is_true h) = absurd (let d : s ≡ TooMany = rw h at judged in let z : ◌≡◌ {A = ℕ} 0 1 = cc in omega arith)
+      go (is_true h) = absurd (let d : s ≡ None = rw h at judged in let z : ◌≡◌ {A = ℕ} 0 1 = cc in omega arith)
       go (is_false h) =
           let n = neither (ltb variable_count (length (variables ar (diagram_of x)) + length (variables ar (diagram_of y)))) _ h in
-          let d : From first minimum ≡ From (first_variable + length (variables ar (diagram_of x))) (first_minimum + length (minimums ar (diagram_of x))) = sym e ∙ (rw h at judged) in
+          let d : ◌≡◌ {A = Option (ℕ × ℕ)} (Some (first, minimum))
+          (Some (first_variable + length (variables ar (diagram_of x)), first_minimum + length (minimums ar (diagram_of x)))) = sym e ∙ (rw h at judged) in
+          let p : ◌≡◌ {A = ℕ × ℕ} (first, minimum) (first_variable + length (variables ar (diagram_of x)), first_minimum + length (minimums ar (diagram_of x))) = cc in
           record {
             call = g;
             first_marks = u;
             second-marks = v;
             few = ltb-false variable_count (length (variables ar (diagram_of x)) + length (variables ar (diagram_of y))) n.0;
             few-minimums = ltb-false minimum_count (length (minimums ar (diagram_of x)) + length (minimums ar (diagram_of y))) n.1;
-            first-is = cc;
-            minimum-is = cc;
+            first-is = ap (λ (p : ℕ × ℕ). p.0) p;
+            minimum-is = ap (λ (p : ℕ × ℕ). p.1) p;
           }

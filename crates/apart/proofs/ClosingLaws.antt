@@ -24,7 +24,6 @@ use Rattle.rename.specs.Maps.{tabled, Marks, close_at}
 use Rattle.rename.specs.MapLaws.{close-terms, marks-closable}
 use Rattle.rename.specs.RenamedWords.{agreeing, close-agrees}
 use Rattle.rename.specs.Calls as rename
-use Rattle.store.specs.declared.Formed.{Formed}
 use Rattle.store.specs.Space.{diagrams_of, Formation, add_all}
 use Rattle.store.specs.Load.{renamed_of, Loadable, Loaded}
 use Rattle.store.specs.AddLaws.{add-all-relabelled}
@@ -33,6 +32,7 @@ use Rattle.write.specs.Renaming as write
 use Rattle.write.specs.Renaming.{listed_in}
 use Rattle.apart.specs.Operands.{Enterable}
 use Rattle.apart.specs.Results.{Closable}
+use Rattle.std.specs.Prelude.{Option}
 
 pub used-marks : {ar : List ℕ} {d : Diagram} {used : List ℕ} → Used ar d used → Marks ar d used
 used-marks u = record { whole = omega (arith, u.whole); mark = u.each }
@@ -83,7 +83,7 @@ module _ {ar ws used : List ℕ} {first minimum : ℕ} {s heads links : List ℕ
       holds = g.holds;
     }
 
-    pub enter-formed : {r : Formed} {s' h' l' n' : List ℕ} → Loaded ar ws ts s count r s' h' l' n'
+    pub enter-formed : {r : Option (ℕ × ℕ)} {s' h' l' n' : List ℕ} → Loaded ar ws ts s count r s' h' l' n'
         → Formation (closed_from ar first minimum (diagram_of ws)) (onto (closed_from ar first minimum (diagram_of ws)) (diagrams_of s count)) r s' h' l'
     enter-formed {r} {s'} {h'} {l'} f =
         let d = diagram_of ws in

@@ -20,34 +20,33 @@ use Rattle.diagram.specs.Variables.{closed}
 use Rattle.apply.specs.declared.Combined.TheVariants.{Done, Refused}
 use Rattle.apply.specs.Combination.{written}
 use Rattle.rename.specs.ClosingLaws.{closed-count}
-use Rattle.write.specs.declared.Listed.{Listed}
-use Rattle.write.specs.declared.Listed.TheVariants.{Rows, TooMany}
 use Rattle.write.specs.Numbering.{Unmarked}
 use Rattle.write.specs.Renaming.{listed_in}
 use Rattle.write.specs.Writing as write
 use Rattle.write.specs.Writing.{write_answer, write_words, WritePost}
 use Rattle.apart.specs.Results.{Closable, Regular, Writable, result_answer, ResultWritten}
+use Rattle.std.specs.Prelude.{None, Option, Some}
 
 regular-good : (ar : List ℕ) (d : Diagram) → Regular ar d → length (rows d) ≤ most_rows → Good ar d
 regular-good ar d g h = record { arities = g.arities; ordered = g.ordered; reduced = g.reduced; fine = g.fine; few = h }
 
 -- the answers of `write`, taken apart
 module _ (d : Diagram) (out : List ℕ) where
-  many-rows : TooMany ≡ write_answer d → most_rows < length (rows d)
+  many-rows : None ≡ write_answer d → most_rows < length (rows d)
   unfolding write_answer
   many-rows e = go (flag (leb (length (rows d)) most_rows))
     where
       go : Flag (leb (length (rows d)) most_rows) → most_rows < length (rows d)
-      go (is_true p) = let k : TooMany ≡ Rows (length (rows d)) = rw p at e in absurd (let z : ◌≡◌ {A = ℕ} 0 1 = cc in omega arith)
+      go (is_true p) = let k : None ≡ Some (length (rows d)) = rw p at e in absurd (let z : ◌≡◌ {A = ℕ} 0 1 = cc in omega arith)
       go (is_false p) = leb-false (length (rows d)) most_rows p
 
-  few-rows : (m : ℕ) → Rows m ≡ write_answer d → (length (rows d) ≤ most_rows) × (m ≡ length (rows d))
+  few-rows : (m : ℕ) → Some m ≡ write_answer d → (length (rows d) ≤ most_rows) × (m ≡ length (rows d))
   unfolding write_answer
   few-rows m e = go (flag (leb (length (rows d)) most_rows))
     where
       go : Flag (leb (length (rows d)) most_rows) → (length (rows d) ≤ most_rows) × (m ≡ length (rows d))
-      go (is_true p) = let k : Rows m ≡ Rows (length (rows d)) = rw p at e in (leb-true (length (rows d)) most_rows p, cc)
-      go (is_false p) = let k : Rows m ≡ TooMany = rw p at e in absurd (let z : ◌≡◌ {A = ℕ} 0 1 = cc in omega arith)
+      go (is_true p) = let k : Some m ≡ Some (length (rows d)) = rw p at e in (leb-true (length (rows d)) most_rows p, cc)
+      go (is_false p) = let k : Some m ≡ None = rw p at e in absurd (let z : ◌≡◌ {A = ℕ} 0 1 = cc in omega arith)
 
   words-many : most_rows < length (rows d) → write_words d out ≡ out
   unfolding write_words
@@ -86,13 +85,13 @@ module _ {ar s out : List ℕ} {count root : ℕ} (g : Writable ar s count root 
     room = omega (arith, g.room);
   }
 
-  module _ {x : Listed} {marks' out' : List ℕ} (w : WritePost s root out x marks' out') where
-    pub result-many : (p : ℕ) → x ≡ TooMany → ResultWritten ar (tree s root) p out (Refused Space) out'
+  module _ {x : Option ℕ} {marks' out' : List ℕ} (w : WritePost s root out x marks' out') where
+    pub result-many : (p : ℕ) → x ≡ None → ResultWritten ar (tree s root) p out (Refused Space) out'
     result-many p e =
         let h = many-rows (tree s root) out (sym e ∙ w.answer) in
         record { answer = answer-many ar (tree s root) g.regular p h; words = w.words ∙ words-many (tree s root) out h }
 
-    module _ {m : ℕ} (e : x ≡ Rows m) where
+    module _ {m : ℕ} (e : x ≡ Some m) where
       rows_few : (length (rows (tree s root)) ≤ most_rows) × (m ≡ length (rows (tree s root)))
       rows_few = few-rows (tree s root) out m (sym e ∙ w.answer)
 

@@ -1,5 +1,6 @@
 -- A good diagram that stands in the space is written, then closed up: there is room for its rows.
 use mathlib.Core.Path.{◌≡◌, sym, ap, subst, ◌∙◌}
+use Rattle.std.proofs.lemmas.Option.{some_pair_parts}
 use mathlib.Core.List.{List, ◌++◌}
 use Prim.Native.Nat.{ℕ, ◌*◌, ◌≤◌}
 use native.Mathlib.Omega.{arith}
@@ -13,15 +14,12 @@ use Rattle.diagram.specs.Validity.{tree}
 use Rattle.diagram.specs.Variables.{closed}
 use Rattle.rename.specs.ClosingLaws.{closed-count}
 use Rattle.apply.specs.declared.Combined.TheVariants.{Done}
-use Rattle.store.specs.declared.Formed.{Formed}
-use Rattle.store.specs.declared.Formed.TheVariants.{Row}
-use Rattle.write.specs.declared.Listed.{Listed}
-use Rattle.write.specs.declared.Listed.TheVariants.{Rows, TooMany}
 use Rattle.write.specs.Renaming.{listed_in}
 use Rattle.write.specs.Writing as write
 use Rattle.write.specs.Writing.{write_answer, WritePost}
 use Rattle.apart.specs.Results.{Closable, Stands, Writable, result_answer}
 use Rattle.apart.proofs.ResultLaws.{result-writable, result-closable, result-done}
+use Rattle.std.specs.Prelude.{None, Option, Some}
 
 -- a good diagram at a row of the space, with room for its listing
 pub record Ready (ar : List ℕ) (d : Diagram) (s : List ℕ) (root count : ℕ) (out : List ℕ) : Type 0 where
@@ -29,12 +27,12 @@ pub record Ready (ar : List ℕ) (d : Diagram) (s : List ℕ) (root count : ℕ)
   good : Good ar (tree s root)
   writable : Writable ar s count root out
 
-module _ {d : Diagram} {x : Formed} {s : List ℕ} {root count : ℕ} (f : Stands d x s) (e : x ≡ Row root count) where
+module _ {d : Diagram} {x : Option (ℕ × ℕ)} {s : List ℕ} {root count : ℕ} (f : Stands d x s) (e : x ≡ Some (root, count)) where
   root_is : root ≡ f.root
-  root_is = let z : Row root count ≡ Row f.root f.count = sym e ∙ f.answer in cc
+  root_is = (some_pair_parts root f.root count f.count (sym e ∙ f.answer)).0
 
   count-is : count ≡ f.count
-  count-is = let z : Row root count ≡ Row f.root f.count = sym e ∙ f.answer in cc
+  count-is = (some_pair_parts root f.root count f.count (sym e ∙ f.answer)).1
 
   tree_is : tree s root ≡ d
   tree_is = ap (tree s) root_is ∙ f.is
@@ -59,15 +57,15 @@ module _ {ar s out : List ℕ} {d : Diagram} {root count : ℕ} (g : Ready ar d 
   pub ready-writable : (n₁ n₂ : ℕ) → space_rows ≤ n₁ → space_rows ≤ n₂ → write.Writable s count root (replicate n₁ 0) (replicate n₂ 0) out
   ready-writable n₁ n₂ h k = result-writable g.writable n₁ n₂ h k
 
-  module _ {y : Listed} {marks' out' : List ℕ} (w : WritePost s root out y marks' out') where
+  module _ {y : Option ℕ} {marks' out' : List ℕ} (w : WritePost s root out y marks' out') where
     -- its rows are not too many
-    pub ready-few : {A : Type 0} → y ≡ TooMany → A
+    pub ready-few : {A : Type 0} → y ≡ None → A
     unfolding write_answer
     ready-few q =
-        let z : TooMany ≡ Rows (length (rows (tree s root))) = rw (le-leb (length (rows (tree s root))) most_rows g.good.few) at (sym q ∙ w.answer) in
+        let z : None ≡ Some (length (rows (tree s root))) = rw (le-leb (length (rows (tree s root))) most_rows g.good.few) at (sym q ∙ w.answer) in
         absurd (let u : ◌≡◌ {A = ℕ} 0 1 = cc in omega arith)
 
-    module _ {m : ℕ} (q : y ≡ Rows m) where
+    module _ {m : ℕ} (q : y ≡ Some m) where
       pub ready-closable : Closable ar out' m
       ready-closable = result-closable g.writable w q
 

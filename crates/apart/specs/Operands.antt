@@ -10,8 +10,7 @@ use Rattle.listing.specs.Used.{Used, marked_variables, marked_minimums}
 use Rattle.rename.specs.Inner.{KindsFit}
 use Rattle.store.specs.Space.{Holds}
 use Rattle.combine.specs.Calls.{Callable}
-use Rattle.apart.specs.declared.Aside.{Aside}
-use Rattle.apart.specs.declared.Aside.TheVariants.{From, TooMany}
+use Rattle.std.specs.Prelude.{None, Option, Some}
 
 -- what `enter` requires: a listing with its terms marked, numbers among their kind for its variables from `first` on and its minimum variables from `minimum` on,
 -- a place for the number of each row, and a space
@@ -23,10 +22,10 @@ pub record Enterable (ar ws used : List ℕ) (first minimum : ℕ) (s heads link
   pub holds : Holds s heads links count
 
 -- where the second operand's variables of each kind begin; "8 judges each kind by itself"
-unfoldable pub aside_of : List ℕ → List ℕ → Aside
+unfoldable pub aside_of : List ℕ → List ℕ → Option (ℕ × ℕ)
 aside_of used_x used_y =
-    cond (ltb variable_count (marked_variables used_x + marked_variables used_y) || ltb minimum_count (marked_minimums used_x + marked_minimums used_y)) TooMany
-    (From (first_variable + marked_variables used_x) (first_minimum + marked_minimums used_x))
+    cond (ltb variable_count (marked_variables used_x + marked_variables used_y) || ltb minimum_count (marked_minimums used_x + marked_minimums used_y)) None
+    (Some ((first_variable + marked_variables used_x), (first_minimum + marked_minimums used_x)))
 
 -- what `combine_moved` requires: a call whose operands have their terms marked and 64 variables of each kind together at most, the second's from `first` and `minimum` on
 pub record Separable (ar x y used_x used_y : List ℕ) (first minimum : ℕ) (out work : List ℕ) : Type 0 where

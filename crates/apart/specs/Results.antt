@@ -15,9 +15,8 @@ use Rattle.apply.specs.declared.Combined.TheVariants.{Done, Refused}
 use Rattle.apply.specs.Apply.{apply}
 use Rattle.apply.specs.Pairs.{pairs, pair_count, overflows}
 use Rattle.apply.specs.Combination.{operate, written}
-use Rattle.store.specs.declared.Formed.{Formed}
-use Rattle.store.specs.declared.Formed.TheVariants.{Row}
 use Rattle.store.specs.Space.{diagrams_of, Holds}
+use Rattle.std.specs.Prelude.{Option, Some}
 
 -- what `close_up` requires: the first m rows of the buffer are a listing
 pub record Closable (ar out : List ℕ) (m : ℕ) : Type 0 where
@@ -32,10 +31,10 @@ pub record Regular (ar : List ℕ) (d : Diagram) : Type 0 where
   pub fine : Fine ar d
 
 -- the diagram d has a row among those of the space, and the answer r names it and their count: there was room
-pub record Stands (d : Diagram) (r : Formed) (s : List ℕ) : Type 0 where
+pub record Stands (d : Diagram) (r : Option (ℕ × ℕ)) (s : List ℕ) : Type 0 where
   pub root : ℕ
   pub count : ℕ
-  pub answer : r ≡ Row root count
+  pub answer : r ≡ Some (root, count)
   pub there : root < count
   pub within : count ≤ space_rows
   pub is : tree s root ≡ d

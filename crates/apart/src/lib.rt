@@ -18,8 +18,6 @@ use apply::{Combined, Operation};
 use combine::Joined;
 use label::Term;
 use refusal::Refusal;
-use store::Formed;
-use write::Listed;
 
 // A word for each term.
 const TERMS: usize = Term::END as usize;
@@ -37,7 +35,7 @@ fn enter(
     links: &mut [u16],
     count: usize,
     numbers: &mut [u16],
-) -> Formed
+) -> Option<(usize, usize)>
     requires { Enterable arities.now words.now used.now first minimum space.old heads.old links.old count numbers.old }
     ensures { Formation (closed_from arities.now first minimum (diagram_of words.now)) (onto (closed_from arities.now first minimum (diagram_of words.now)) (diagrams_of space.old count)) result space.new heads.new links.new }
 {
@@ -72,7 +70,7 @@ pub fn write_result(
 {
     let mut marks = [0u16; diagram::SPACE_ROWS];
     let mut order = [0u16; diagram::SPACE_ROWS];
-    let Listed::Rows(m) = write::write(space, count, root, &mut marks, &mut order, out) else {
+    let Some(m) = write::write(space, count, root, &mut marks, &mut order, out) else {
         return Combined::Refused(Refusal::Space);
     };
     close_up(arities, out, m);
@@ -177,7 +175,7 @@ fn combine_moved(
     let mut heads = [0u16; table::BUCKETS];
     let mut links = [0u16; diagram::SPACE_ROWS];
     let mut numbers = [0u16; diagram::ROWS];
-    let Formed::Row(i, n) = enter(
+    let Some((i, n)) = enter(
         arities,
         x,
         usedx,
@@ -191,7 +189,7 @@ fn combine_moved(
     ) else {
         return Combined::Refused(Refusal::Space);
     };
-    let Formed::Row(j, m) = enter(
+    let Some((j, m)) = enter(
         arities,
         y,
         usedy,
@@ -208,15 +206,9 @@ fn combine_moved(
     join(op, arities, i, j, work, &mut heads, &mut links, m, out)
 }
 
-// Where the second operand's variables and minimum variables begin, unless a kind has more than 64 of both operands.
-#[derive(Clone, Copy)]
-pub enum Aside {
-    From(u64, u64),
-    TooMany,
-}
-
-// The first numbers of the second operand's variables: those of each kind follow after the first operand's. Marked terms occur.
-fn set_aside(usedx: &[u64], usedy: &[u64]) -> Aside
+// The first numbers of the second operand's variables: those of each kind follow after the first operand's. Marked terms occur. None where a kind
+// has more than 64 of both operands.
+fn set_aside(usedx: &[u64], usedy: &[u64]) -> Option<(u64, u64)>
     requires usedx_len { length usedx.now ≡ term_end }
     requires usedy_len { length usedy.now ≡ term_end }
     ensures { result ≡ aside_of usedx.now usedy.now }
@@ -224,12 +216,12 @@ fn set_aside(usedx: &[u64], usedy: &[u64]) -> Aside
     let n = listing::count_variables(usedx) as u64;
     let k = listing::count_minimums(usedx) as u64;
     if n + (listing::count_variables(usedy) as u64) > Term::VARIABLES {
-        return Aside::TooMany;
+        return None;
     }
     if k + (listing::count_minimums(usedy) as u64) > Term::MINIMUMS {
-        return Aside::TooMany;
+        return None;
     }
-    Aside::From(Term::FIRST_VARIABLE + n, Term::FIRST_MINIMUM + k)
+    Some((Term::FIRST_VARIABLE + n, Term::FIRST_MINIMUM + k))
 }
 
 // Combines two listings with names apart.
@@ -248,7 +240,7 @@ pub fn combine_apart(
     let mut usedy = [0u64; TERMS];
     listing::used(arities, x, &mut usedx);
     listing::used(arities, y, &mut usedy);
-    let Aside::From(first, minimum) = set_aside(&usedx, &usedy) else {
+    let Some((first, minimum)) = set_aside(&usedx, &usedy) else {
         return Combined::Refused(Refusal::Variables);
     };
     combine_moved(op, arities, x, y, &usedx, &usedy, first, minimum, out, work)

@@ -27,8 +27,6 @@ use Rattle.mdp.specs.Backup.{variants_sum}
 use Rattle.model.specs.declared.Head.{Head}
 use Rattle.model.specs.Inner.{Laid}
 use Rattle.model.specs.Layout.{action_words, action_at, model_of}
-use Rattle.steps.specs.declared.Step.{Step}
-use Rattle.steps.specs.declared.Step.TheVariants.{Rows, Refused as Stopped}
 use Rattle.steps.specs.Steps.{Given}
 use Rattle.steps.specs.GivenLaws.{step-refused}
 use Rattle.planner.specs.PartLaws.{many-every}
@@ -38,13 +36,12 @@ use Rattle.best.specs.Best.{Rated, rated, bindings_best, moves_best, best_answer
 use Rattle.best_move.specs.declared.Chosen.{Chosen}
 use Rattle.best_move.specs.declared.Chosen.TheVariants.{Move as TheMove, Refused as NoMove}
 use Rattle.best_move.specs.declared.Lead.{Lead}
-use Rattle.best_move.specs.declared.Led.{Led}
-use Rattle.best_move.specs.declared.Led.TheVariants.{To, Refused}
 use Rattle.best_move.specs.Chosen.{chosen_as, BestTask}
-use Rattle.best_move.specs.Inside.{digits, rate_of, led_as, Leading, Rates, first_lead, stopped_as, action_tried, Tupled, Placed, ValueGiven, Answerable}
+use Rattle.best_move.specs.Inside.{digits, rate_of, led_as, Leading, Rates, first_lead, action_tried, Tupled, Placed, ValueGiven, Answerable}
 use Rattle.best_move.proofs.DigitLaws.{zeros, length_digits, digits-zero, digits-read, digit-less}
 use Rattle.best_move.proofs.FoldLaws.{fold_on, fold-refused}
 use Rattle.best_move.proofs.LeadLaws.{rates-to, rates-refused, rates-same, rated-to, rated-refused, moves_more}
+use Rattle.std.specs.Prelude.{Err, Ok, Result}
 
 -- ===== A state =====
 
@@ -81,20 +78,19 @@ module _ {ar listings table : List ℕ} {a : ℕ} (t : ActionTask ar listings ta
   pub task-few : get_or table (a * action_words) 0 ≤ parameter_count
   task-few = subst (λ (c : ℕ). c ≤ parameter_count) (count-is listings table a) t.good.few
 
-module _ (ar listings table : List ℕ) (a g n : ℕ) (constants facts value : List ℕ) (l : Lead) {x : Step} {sum : List ℕ}
+module _ (ar listings table : List ℕ) (a g n : ℕ) (constants facts value : List ℕ) (l : Lead) {x : Result ℕ Refusal} {sum : List ℕ}
     (y : Given ar (variants_sum ar g (diagram_of value) (leaf 0) (action_at listings table a).variants) x sum) where
   abbrev Tried : Outcome Rated
   Tried = action_tried ar g (state_of ar n constants facts) (diagram_of value) a (action_at listings table a) (rate_of n l)
 
-  pub sum-stops : {e : Refusal} → x ≡ Stopped e → {r : Led} → r ≡ stopped_as x l → Rates n Tried r
+  pub sum-stops : {e : Refusal} → x ≡ Err e → Rates n Tried (Err e)
   unfolding action_tried
-  sum-stops {e} h {r} q =
+  sum-stops {e} h =
       let o = step-refused (variants_sum ar g (diagram_of value) (leaf 0) (action_at listings table a).variants) e (sym y.answer ∙ h) in
-      subst (Rates n Tried) (sym (q ∙ ap (λ (z : Step). stopped_as z l) h))
-      (rates-refused (ap (λ (z : Outcome Diagram). and_then z (λ q. bindings_best ar (state_of ar n constants facts) a q
-      (tuples (state_of ar n constants facts).size (action_at listings table a).count) (rate_of n l))) o))
+      rates-refused (ap (λ (z : Outcome Diagram). and_then z (λ q. bindings_best ar (state_of ar n constants facts) a q
+      (tuples (state_of ar n constants facts).size (action_at listings table a).count) (rate_of n l))) o)
 
-  pub sum-tried : {m : ℕ} → x ≡ Rows m → {r : Led}
+  pub sum-tried : {m : ℕ} → x ≡ Ok m → {r : Result Lead Refusal}
       → Rates n (bindings_best ar (state_of ar n constants facts) a (diagram_of (take (m * 3) sum)) (tuples n (get_or table (a * action_words) 0)) (rate_of n l)) r → Rates n Tried r
   unfolding action_tried state_of action_at
   sum-tried {m} h z = rates-same (sym (ap (λ (o : Outcome Diagram). and_then o (λ q. bindings_best ar (state_of ar n constants facts) a q
@@ -188,20 +184,20 @@ module _ {ar listings table : List ℕ} {h : Head} (t : Laid ar listings table h
   abbrev All : Outcome Rated
   All = moves_best (model_of ar listings table h) s d 0 (model_of ar listings table h).actions (rated (first_move (model_of ar listings table h)) 0)
 
-  pub acting-end : h.actions ≤ a → Rates n All (To l)
+  pub acting-end : h.actions ≤ a → Rates n All (Ok l)
   acting-end k =
       let w = x.within in
       let z : h.actions ≡ a = omega arith in
       rates-to (sym (all_are t s d) ∙ ap (S t s d) z ∙ x.so_far) x.leading
 
-  module _ {r : Led} (y : Rates n (action_tried ar h.numerator s d a (action_at listings table a) (rate_of n l)) r) (k : a < h.actions) where
+  module _ {r : Result Lead Refusal} (y : Rates n (action_tried ar h.numerator s d a (action_at listings table a) (rate_of n l)) r) (k : a < h.actions) where
     next-is : S t s d (a + 1) ≡ action_tried ar h.numerator s d a (action_at listings table a) (rate_of n l)
     next-is = fold_on (S t s d) (step t s d) (step-more t s d) x.so_far
 
-    pub acting-on : {m : Lead} → r ≡ To m → Acting ar listings table h s d n m (a + 1)
+    pub acting-on : {m : Lead} → r ≡ Ok m → Acting ar listings table h s d n m (a + 1)
     acting-on {m} e = record { within = omega arith; leading = y.leading m e; so_far = next-is ∙ rated-to y e }
 
-    pub acting-stops : {e : Refusal} → r ≡ Refused e → Rates n All r
+    pub acting-stops : {e : Refusal} → r ≡ Err e → Rates n All r
     acting-stops {e} q = subst (Rates n All) (sym q)
         (rates-refused (sym (all_are t s d) ∙ fold-refused (S t s d) (step t s d) (step-more t s d) {v = a + 1} (next-is ∙ rated-refused y q) h.actions (omega arith)))
 
@@ -229,18 +225,18 @@ lead-byte n l m t {os} e k =
 pub lead-fits : (n : ℕ) (l : Lead) (m : ℕ) → Tupled n l.count → {os : List ℕ} → os ≡ digits n l.count l.index ++ drop l.count (replicate m 0) → (k : ℕ) → Fits w8 (get_or os k 0)
 lead-fits n l m t e k = omega (arith, lead-byte n l m t e k)
 
-module _ {r : Led} where
-  pub answer-tupled : {n : ℕ} → Answerable n r → {l : Lead} → r ≡ To l → Tupled n l.count
+module _ {r : Result Lead Refusal} where
+  pub answer-tupled : {n : ℕ} → Answerable n r → {l : Lead} → r ≡ Ok l → Tupled n l.count
   answer-tupled {n} a {l} e = record { some = a.some; objects-few = a.objects-few; few = (a.leading l e).few }
 
-  pub answer-move : (n : ℕ) {l : Lead} → r ≡ To l → {q : Chosen} → q ≡ chosen_as (ok (rate_of n l).move) → q ≡ chosen_as (and_then (led_as n r) (λ best. ok best.move))
-  answer-move n e q = q ∙ sym (ap (λ (x : Led). chosen_as (and_then (led_as n x) (λ best. ok best.move))) e)
+  pub answer-move : (n : ℕ) {l : Lead} → r ≡ Ok l → {q : Chosen} → q ≡ chosen_as (ok (rate_of n l).move) → q ≡ chosen_as (and_then (led_as n r) (λ best. ok best.move))
+  answer-move n e q = q ∙ sym (ap (λ (x : Result Lead Refusal). chosen_as (and_then (led_as n x) (λ best. ok best.move))) e)
 
-  pub answer-refused : (n : ℕ) {e : Refusal} → r ≡ Refused e → NoMove e ≡ chosen_as (and_then (led_as n r) (λ best. ok best.move))
-  answer-refused n e = sym (ap (λ (x : Led). chosen_as (and_then (led_as n x) (λ best. ok best.move))) e)
+  pub answer-refused : (n : ℕ) {e : Refusal} → r ≡ Err e → NoMove e ≡ chosen_as (and_then (led_as n r) (λ best. ok best.move))
+  answer-refused n e = sym (ap (λ (x : Result Lead Refusal). chosen_as (and_then (led_as n x) (λ best. ok best.move))) e)
 
 -- the call's answer
-pub best-answered : (ar listings table : List ℕ) (h : Head) (s : State) (d : Diagram) {n : ℕ} {r : Led} {q : Chosen}
+pub best-answered : (ar listings table : List ℕ) (h : Head) (s : State) (d : Diagram) {n : ℕ} {r : Result Lead Refusal} {q : Chosen}
     → Rates n (moves_best (model_of ar listings table h) s d 0 (model_of ar listings table h).actions (rated (first_move (model_of ar listings table h)) 0)) r
     → q ≡ chosen_as (and_then (led_as n r) (λ best. ok best.move)) → q ≡ chosen_as (best_answer (model_of ar listings table h) s d)
 unfolding best_answer
@@ -253,5 +249,5 @@ module _ {ar listings table : List ℕ} {h : Head} {n : ℕ} {constants facts in
   pub task-placed : Placed ar n constants facts index
   task-placed = record { lent = t.lent; objects-few = t.objects-few; indexed = t.indexed }
 
-  pub task-answerable : {o : Outcome Rated} {r : Led} → Rates n o r → Answerable n r
+  pub task-answerable : {o : Outcome Rated} {r : Result Lead Refusal} → Rates n o r → Answerable n r
   task-answerable x = record { some = state-some ar n constants facts t.lent; objects-few = t.objects-few; leading = x.leading }

@@ -1,13 +1,13 @@
 -- Laws of the best so far: one binding more, one action more, in the words of the code.
 use mathlib.Core.Path.{◌≡◌, refl, sym, ap, subst, ◌∙◌}
-use mathlib.Core.Bool.{Bool, true, false, not, cond}
+use mathlib.Core.Bool.{Bool, true, false, cond}
 use mathlib.Core.List.{List, [], ◌∷◌, ◌++◌}
 use Prim.Native.Nat.{ℕ, suc, ◌+◌, ◌-◌, ◌^◌, ◌≤◌, ◌<◌, max}
 use native.Mathlib.Omega.{arith}
 use native.Mathlib.Nat.{add-zero}
 use lib.ListN.{length, get_or}
 use lib.Dec.{ltb}
-use borrow.Author.Tests.{lt-ltb, le-ltb, ltb-true, eq-eqb, ne_eqb, not-true, not-false}
+use borrow.Author.Tests.{lt-ltb, le-ltb, ltb-true, eq-eqb, ne_eqb}
 use Rattle.basics.specs.Tests.{Cmp, below, equal, above, cmp, and_left, and_right}
 use Rattle.refusal.specs.declared.Refusal.{Refusal}
 use Rattle.refusal.specs.declared.Refusal.TheVariants.{Valuations}
@@ -17,8 +17,6 @@ use Rattle.diagram.specs.Diagram.{Diagram, leaf}
 use Rattle.diagram.specs.Words.{row_count, is_listing}
 use Rattle.diagram.specs.Listing.{diagram_of}
 use Rattle.diagram.specs.Listings.{is-listing-diagram}
-use Rattle.state.specs.declared.Valued.{Valued}
-use Rattle.state.specs.declared.Valued.TheVariants.{Value, Refused as Unvalued}
 use Rattle.state.specs.State.{State, meaning}
 use Rattle.state.specs.Lent.{state_of}
 use Rattle.state.specs.Max.{tuples}
@@ -26,8 +24,6 @@ use Rattle.elimination.specs.Answer.{is_too_large}
 use Rattle.names.specs.Many.{many}
 use Rattle.mdp.specs.Model.{Action, Model}
 use Rattle.mdp.specs.Backup.{variants_sum}
-use Rattle.steps.specs.declared.Step.{Step}
-use Rattle.steps.specs.declared.Step.TheVariants.{Rows, Refused as Stopped}
 use Rattle.steps.specs.GivenLaws.{then-then, then_same}
 use Rattle.best.specs.Moves.{move}
 use Rattle.best.specs.Best.{Rated, rated, better, binding_value, bindings_best, moves_best}
@@ -36,28 +32,27 @@ use Rattle.valuing.specs.Walks.{bound_number, bound_answer, climbed, is_few, Pre
 use Rattle.valuing.proofs.StartLaws.{root-cut}
 use Rattle.valuing.proofs.CheckLaws.{bound-few}
 use Rattle.best_move.specs.declared.Lead.{Lead}
-use Rattle.best_move.specs.declared.Led.{Led}
-use Rattle.best_move.specs.declared.Led.TheVariants.{To, Refused}
-use Rattle.best_move.specs.Inside.{digits, rate_of, led_as, Leading, Rates, first_lead, raised_to, taken_as, stopped_as, settled, binding_tried, action_tried, Tupled}
+use Rattle.best_move.specs.Inside.{digits, rate_of, led_as, Leading, Rates, first_lead, raised_to, settled, binding_tried, action_tried, Tupled}
 use Rattle.best_move.proofs.DigitLaws.{digits-below, tuples-digits}
 use Rattle.best_move.proofs.FoldLaws.{fold_on, fold-refused, fold-settled}
+use Rattle.std.specs.Prelude.{Err, Ok, Result}
 
 -- ===== Answers =====
 
-pub rates-to : {n : ℕ} {o : Outcome Rated} {l : Lead} → o ≡ ok (rate_of n l) → Leading l → Rates n o (To l)
+pub rates-to : {n : ℕ} {o : Outcome Rated} {l : Lead} → o ≡ ok (rate_of n l) → Leading l → Rates n o (Ok l)
 rates-to {n} {o} {l} e k = record { is = sym e; leading = λ m q. let z : l ≡ m = cc in subst Leading z k }
 
-pub rates-refused : {n : ℕ} {o : Outcome Rated} {r : Refusal} → o ≡ refused r → Rates n o (Refused r)
+pub rates-refused : {n : ℕ} {o : Outcome Rated} {r : Refusal} → o ≡ refused r → Rates n o (Err r)
 rates-refused e = record { is = sym e; leading = λ m q. let z : ◌≡◌ {A = ℕ} 0 1 = cc in absurd (omega arith) }
 
-pub rates-same : {n : ℕ} {o o' : Outcome Rated} {r : Led} → o ≡ o' → Rates n o r → Rates n o' r
+pub rates-same : {n : ℕ} {o o' : Outcome Rated} {r : Result Lead Refusal} → o ≡ o' → Rates n o r → Rates n o' r
 rates-same e x = record { is = x.is ∙ e; leading = x.leading }
 
-module _ {n : ℕ} {o : Outcome Rated} {r : Led} (x : Rates n o r) where
-  pub rated-to : {l : Lead} → r ≡ To l → o ≡ ok (rate_of n l)
+module _ {n : ℕ} {o : Outcome Rated} {r : Result Lead Refusal} (x : Rates n o r) where
+  pub rated-to : {l : Lead} → r ≡ Ok l → o ≡ ok (rate_of n l)
   rated-to e = sym x.is ∙ ap (led_as n) e
 
-  pub rated-refused : {e : Refusal} → r ≡ Refused e → o ≡ refused e
+  pub rated-refused : {e : Refusal} → r ≡ Err e → o ≡ refused e
   rated-refused e = sym x.is ∙ ap (led_as n) e
 
 -- ===== Parts of the code =====
@@ -70,25 +65,24 @@ pub raised-old : {l : Lead} {b : ℕ} → b ≤ l.best → (a c i : ℕ) → l �
 unfolding raised_to
 raised-old {l} {b} h a c i = rw (le-ltb l.best b h)
 
-pub taken-value : {v : Valued} {b : ℕ} (l : Lead) (a c i : ℕ) → v ≡ Value b → {x : Lead} → x ≡ raised_to l b a c i → To x ≡ taken_as v l a c i
-taken-value l a c i e q = ap To q ∙ sym (ap (λ (z : Valued). taken_as z l a c i) e)
+-- the best so far once a climb has answered
+abbrev pub taken_as : Result ℕ Refusal → Lead → ℕ → ℕ → ℕ → Result Lead Refusal
+taken_as (Ok b) l a c i = Ok (raised_to l b a c i)
+taken_as (Err r) l a c i = Err r
 
-pub taken_refused : {v : Valued} {r : Refusal} (l : Lead) (a c i : ℕ) → v ≡ Unvalued r → Refused r ≡ taken_as v l a c i
-taken_refused l a c i e = sym (ap (λ (z : Valued). taken_as z l a c i) e)
+pub taken-value : {v : Result ℕ Refusal} {b : ℕ} (l : Lead) (a c i : ℕ) → v ≡ Ok b → {x : Lead} → x ≡ raised_to l b a c i → Ok x ≡ taken_as v l a c i
+taken-value l a c i e q = ap Ok q ∙ sym (ap (λ (z : Result ℕ Refusal). taken_as z l a c i) e)
 
-pub stopped-rows : {x : Step} {n : ℕ} (l : Lead) → x ≡ Rows n → To l ≡ stopped_as x l
-stopped-rows l e = sym (ap (λ (z : Step). stopped_as z l) e)
+pub taken_refused : {v : Result ℕ Refusal} {r : Refusal} (l : Lead) (a c i : ℕ) → v ≡ Err r → Err r ≡ taken_as v l a c i
+taken_refused l a c i e = sym (ap (λ (z : Result ℕ Refusal). taken_as z l a c i) e)
 
-pub stopped-refused : {x : Step} {r : Refusal} (l : Lead) → x ≡ Stopped r → Refused r ≡ stopped_as x l
-stopped-refused l e = sym (ap (λ (z : Step). stopped_as z l) e)
-
-pub settled-not : (ws high : List ℕ) (best : ℕ) (b : Bool) → not b ≡ true → false ≡ settled ws high b best
+pub settled-not : (ws high : List ℕ) (best : ℕ) (b : Bool) → b ≡ false → b ≡ settled ws high b best
 unfolding settled
-settled-not ws high best b h = rw (not-true b h)
+settled-not ws high best b h = rw h
 
-pub settled-test : (ws high : List ℕ) (best : ℕ) (b : Bool) → not b ≡ false → ltb (get_or high (row_count ws - 1) 0) best ≡ settled ws high b best
+pub settled-test : (ws high : List ℕ) (best : ℕ) (b : Bool) → b ≡ true → ltb (get_or high (row_count ws - 1) 0) best ≡ settled ws high b best
 unfolding settled
-settled-test ws high best b h = rw (not-false b h)
+settled-test ws high best b h = rw h
 
 pub first-none : (table : List ℕ) {k : ℕ} → k ≡ 0 → ◌≡◌ {A = Lead} (record { best = 1; action = 0; count = 0; index = 0 }) (first_lead table k)
 unfolding first_lead
@@ -131,7 +125,7 @@ module _ (ar ws : List ℕ) (n : ℕ) (constants facts : List ℕ) (listed : is_
   value-is = ap (λ (x : List ℕ). cond (is_too_large ar s os x) (refused Valuations) (ok (number s os (meaning ar (diagram_of ws))))) (is-listing-diagram ar ws listed)
 
   -- a climb's answer taken
-  pub binding-taken : {v : Valued} {r : Led} {xs : List ℕ} → xs ≡ digits n c i → v ≡ climbed l.best (bound_answer ar ws n constants facts xs) → r ≡ taken_as v l a c i
+  pub binding-taken : {v : Result ℕ Refusal} {r : Result Lead Refusal} {xs : List ℕ} → xs ≡ digits n c i → v ≡ climbed l.best (bound_answer ar ws n constants facts xs) → r ≡ taken_as v l a c i
       → Rates n (binding_tried ar s a (diagram_of ws) (rate_of n l) os) r
   unfolding binding_tried bound_answer climbed
   binding-taken {v} {r} {xs} x e q =
@@ -140,7 +134,7 @@ module _ (ar ws : List ℕ) (n : ℕ) (constants facts : List ℕ) (listed : is_
       (rates-same (sym (ap (λ (y : Outcome ℕ). and_then y (λ h. ok (better (rate_of n l) (rated (move a os) h)))) value-is)) (go (is_too_large ar s os ws)))
     where
       go : (b : Bool) → Rates n (and_then (cond b (refused Valuations) (ok (number s os (meaning ar (diagram_of ws))))) (λ h. ok (better (rate_of n l) (rated (move a os) h))))
-          (taken_as (climbed l.best (cond b (Unvalued Valuations) (Value (bound_number ar ws n constants facts os)))) l a c i)
+          (taken_as (climbed l.best (cond b (Err Valuations) (Ok (bound_number ar ws n constants facts os)))) l a c i)
       go true = rates-refused refl
       go false = rates-to (ap ok (sym (raised_is n l k a c i (bound_number ar ws n constants facts os)))) (raised-leading n l k a c i (bound_number ar ws n constants facts os) few)
 
@@ -150,8 +144,8 @@ module _ (ar ws : List ℕ) (n : ℕ) (constants facts : List ℕ) (listed : is_
   unfolding settled climbed
   binding-settled {high} p m {b} e h =
       let top : get_or high (row_count ws - 1) 0 < l.best = ltb-true _ _ (and_right b _ h) in
-      let v : Value l.best ≡ climbed l.best (bound_answer ar ws n constants facts os) =
-      ap Value (root-cut p os (digits-below n c i m) top) ∙ ap (climbed l.best) (bound-few ar ws n constants facts os e (and_left b _ h) refl) in
+      let v : Ok l.best ≡ climbed l.best (bound_answer ar ws n constants facts os) =
+      ap Ok (root-cut p os (digits-below n c i m) top) ∙ ap (climbed l.best) (bound-few ar ws n constants facts os e (and_left b _ h) refl) in
       rated-to (binding-taken refl v refl) refl ∙ ap ok (ap (rate_of n) (sym (raised-old (omega arith) a c i)))
 
 -- ===== The bindings of an action =====
@@ -189,7 +183,7 @@ unfolding many bindings_best
 binding-start k = record { within = omega arith; leading = k; so_far = refl }
 
 module _ {ar : List ℕ} {s : State} {a : ℕ} {q : Diagram} {n c total : ℕ} {first l : Lead} {i : ℕ} (x : Binding ar s a q n c total first l i) where
-  pub binding-end : Tupled n c → total ≡ n ^ c → total ≤ i → Rates n (bindings_best ar s a q (tuples n c) (rate_of n first)) (To l)
+  pub binding-end : Tupled n c → total ≡ n ^ c → total ≤ i → Rates n (bindings_best ar s a q (tuples n c) (rate_of n first)) (Ok l)
   binding-end t e h =
       let w = x.within in
       let z : total ≡ i = omega arith in
@@ -197,18 +191,18 @@ module _ {ar : List ℕ} {s : State} {a : ℕ} {q : Diagram} {n c total : ℕ} {
 
   -- no tuple that is left takes its place
   pub binding-left : Tupled n c → total ≡ n ^ c → ((k : ℕ) → binding_tried ar s a q (rate_of n l) (digits n c k) ≡ ok (rate_of n l))
-      → Rates n (bindings_best ar s a q (tuples n c) (rate_of n first)) (To l)
+      → Rates n (bindings_best ar s a q (tuples n c) (rate_of n first)) (Ok l)
   binding-left t e f =
       rates-to (sym (all_are ar s a q n c first t e) ∙ fold-settled (S ar s a q n c first) (step ar s a q n c first) (step-more ar s a q n c first) x.so_far f total x.within) x.leading
 
-  module _ {r : Led} (y : Rates n (binding_tried ar s a q (rate_of n l) (digits n c i)) r) (h : i < total) where
+  module _ {r : Result Lead Refusal} (y : Rates n (binding_tried ar s a q (rate_of n l) (digits n c i)) r) (h : i < total) where
     next-is : bindings_best ar s a q (many (digits n c) (i + 1)) (rate_of n first) ≡ binding_tried ar s a q (rate_of n l) (digits n c i)
     next-is = fold_on (S ar s a q n c first) (step ar s a q n c first) (step-more ar s a q n c first) x.so_far
 
-    pub binding-on : {m : Lead} → r ≡ To m → Binding ar s a q n c total first m (i + 1)
+    pub binding-on : {m : Lead} → r ≡ Ok m → Binding ar s a q n c total first m (i + 1)
     binding-on {m} e = record { within = omega arith; leading = y.leading m e; so_far = next-is ∙ rated-to y e }
 
-    pub binding-stops : Tupled n c → total ≡ n ^ c → {e : Refusal} → r ≡ Refused e → Rates n (bindings_best ar s a q (tuples n c) (rate_of n first)) r
+    pub binding-stops : Tupled n c → total ≡ n ^ c → {e : Refusal} → r ≡ Err e → Rates n (bindings_best ar s a q (tuples n c) (rate_of n first)) r
     binding-stops t p {e} k = subst (Rates n (bindings_best ar s a q (tuples n c) (rate_of n first))) (sym k) (rates-refused (sym (all_are ar s a q n c first t p)
         ∙ fold-refused (S ar s a q n c first) (step ar s a q n c first) (step-more ar s a q n c first) {v = i + 1} (next-is ∙ rated-refused y k) total (omega arith)))
 

@@ -7,8 +7,6 @@ use Rattle.diagram.specs.Diagram.{Diagram, leaf}
 use Rattle.diagram.specs.Words.{row_count, is_listing}
 use Rattle.diagram.specs.Listing.{diagram_of}
 use Rattle.state.specs.State.{State, meaning}
-use Rattle.state.specs.declared.Valued.{Valued}
-use Rattle.state.specs.declared.Valued.TheVariants.{Value, Refused as Unvalued}
 use Rattle.state.specs.Lent.{state_of, is_state, most_objects}
 use Rattle.state.specs.Max.{tuples}
 use Rattle.regression.specs.Parameters.{Within}
@@ -16,14 +14,12 @@ use Rattle.mdp.specs.Model.{Action}
 use Rattle.mdp.specs.Backup.{variants_sum}
 use Rattle.model.specs.declared.Head.{Head}
 use Rattle.model.specs.Layout.{action_at, model_of}
-use Rattle.steps.specs.declared.Step.{Step}
-use Rattle.steps.specs.declared.Step.TheVariants.{Rows, Refused as Stopped}
 use Rattle.best.specs.Moves.{move, first_move}
 use Rattle.best.specs.Best.{Rated, rated, better, binding_value, bindings_best, moves_best}
 use Rattle.fact_index.specs.Inner.{indexed_count, Indexed}
 use Rattle.best_move.specs.declared.Lead.{Lead}
-use Rattle.best_move.specs.declared.Led.{Led}
-use Rattle.best_move.specs.declared.Led.TheVariants.{To, Refused}
+use Rattle.refusal.specs.declared.Refusal.{Refusal}
+use Rattle.std.specs.Prelude.{Err, Ok, Result}
 
 -- ===== Tuples by number =====
 
@@ -39,9 +35,9 @@ abbrev pub rate_of : ℕ → Lead → Rated
 rate_of n l = rated (move l.action (digits n l.count l.index)) (l.best - 1)
 
 -- what is answered, as an outcome
-abbrev pub led_as : ℕ → Led → Outcome Rated
-led_as n (To l) = ok (rate_of n l)
-led_as n (Refused r) = refused r
+abbrev pub led_as : ℕ → Result Lead Refusal → Outcome Rated
+led_as n (Ok l) = ok (rate_of n l)
+led_as n (Err r) = refused r
 
 -- it has a sum, and no more objects than an action has parameters
 pub record Leading (l : Lead) : Type 0 where
@@ -49,9 +45,9 @@ pub record Leading (l : Lead) : Type 0 where
   pub few : l.count ≤ parameter_count
 
 -- the answer is what o gives
-pub record Rates (n : ℕ) (o : Outcome Rated) (r : Led) : Type 0 where
+pub record Rates (n : ℕ) (o : Outcome Rated) (r : Result Lead Refusal) : Type 0 where
   pub is : led_as n r ≡ o
-  pub leading : (l : Lead) → r ≡ To l → Leading l
+  pub leading : (l : Lead) → r ≡ Ok l → Leading l
 
 -- the first move of all, with the sum 0
 unfoldable pub first_lead : List ℕ → ℕ → Lead
@@ -61,19 +57,9 @@ first_lead table actions = record { best = 1; action = 0; count = cond (eqb acti
 unfoldable pub raised_to : Lead → ℕ → ℕ → ℕ → ℕ → Lead
 raised_to l b a c i = cond (ltb l.best b) (record { best = b; action = a; count = c; index = i }) l
 
--- the same by what a climb has answered
-abbrev pub taken_as : Valued → Lead → ℕ → ℕ → ℕ → Led
-taken_as (Value b) l a c i = To (raised_to l b a c i)
-taken_as (Unvalued r) l a c i = Refused r
-
 -- no tuple can pass the best so far, where 15 cannot be met: no leaf below the root is that high
 unfoldable pub settled : List ℕ → List ℕ → Bool → ℕ → Bool
 settled ws high few best = few && ltb (get_or high (row_count ws - 1) 0) best
-
--- the answer of a step that was refused
-abbrev pub stopped_as : Step → Lead → Led
-stopped_as (Rows n) l = To l
-stopped_as (Stopped r) l = Refused r
 
 -- ===== One binding, one action =====
 
@@ -130,7 +116,7 @@ pub record ValueGiven (ar value : List ℕ) (g : ℕ) (work : List ℕ) : Type 0
   pub work-room : space_words ≤ length work
 
 -- a lead, if there is one, whose objects are bytes
-pub record Answerable (n : ℕ) (r : Led) : Type 0 where
+pub record Answerable (n : ℕ) (r : Result Lead Refusal) : Type 0 where
   pub some : 0 < n
   pub objects-few : n ≤ most_objects
-  pub leading : (l : Lead) → r ≡ To l → Leading l
+  pub leading : (l : Lead) → r ≡ Ok l → Leading l

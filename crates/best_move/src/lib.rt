@@ -11,14 +11,12 @@ ghost use Rattle.model.specs.Inner.{Laid};
 ghost use Rattle.planner.specs.Tasks.{ActionTask};
 ghost use Rattle.valuing.specs.Walks.{is_few, Prepared};
 ghost use Rattle.best_move.specs.Chosen.{chosen_as, best_chosen, BestTask};
-ghost use Rattle.best_move.specs.Inside.{digits, rate_of, led_as, Leading, Rates, first_lead, raised_to, taken_as, stopped_as, settled, binding_lent, bindings_lent, action_lent, moves_lent};
+ghost use Rattle.best_move.specs.Inside.{digits, rate_of, led_as, Leading, Rates, first_lead, raised_to, settled, binding_lent, bindings_lent, action_lent, moves_lent};
 ghost use Rattle.best_move.specs.Inside.{Rooted, Tupled, Placed, ValueGiven, Answerable};
 
 use label::Term;
 use model::Head;
 use refusal::Refusal;
-use state::Valued;
-use steps::Step;
 
 // What (best) answers: the action's number, how many objects, and these, 0 where there is none; or the first refusal met.
 #[derive(Clone, Copy)]
@@ -36,13 +34,6 @@ pub struct Lead {
     pub index: u64,
 }
 
-// The best move so far, or a refusal.
-#[derive(Clone, Copy)]
-pub enum Led {
-    To(Lead),
-    Refused(Refusal),
-}
-
 // Parameters of an action at most.
 const PARAMETERS: usize = Term::PARAMETERS as usize;
 
@@ -53,9 +44,7 @@ fn objects_at(i: u64, n: u64, count: usize, objects: &mut [u64])
     ensures { objects.new ≡ digits n count i ++ drop count objects.old }
 {
     let mut rest = i;
-    let mut k = count;
-    while k > 0 {
-        k -= 1;
+    for k in (0..count).rev() {
         objects[k] = rest % n;
         rest = rest / n;
     }
@@ -67,10 +56,8 @@ fn tuple_count(n: u64, count: usize) -> u64
     ensures { result ≡ n ^ count }
 {
     let mut p = 1;
-    let mut k = 0;
-    while k < count {
+    for k in 0..count {
         p = p * n;
-        k += 1;
     }
     p
 }
@@ -82,22 +69,12 @@ fn raised(l: Lead, b: u64, action: usize, count: usize, i: u64) -> Lead
     if l.best < b {
         return Lead {
             best: b,
-            action: action,
-            count: count,
+            action,
+            count,
             index: i,
         };
     }
     l
-}
-
-// The best so far once the climb of a tuple has answered v.
-fn taken(v: Valued, l: Lead, action: usize, count: usize, i: u64) -> Led
-    ensures { result ≡ taken_as v l action count i }
-{
-    match v {
-        Valued::Value(b) => Led::To(raised(l, b, action, count, i)),
-        Valued::Refused(e) => Led::Refused(e),
-    }
 }
 
 // The best so far, or the tuple of number i of an action, whose regressed sum is lent, where its value is higher: a tuple that cannot pass the best is abandoned.
@@ -115,7 +92,7 @@ fn try_binding(
     count: usize,
     i: u64,
     l: Lead,
-) -> Led
+) -> Result<Lead, Refusal>
     requires prepared { Prepared arities.now words.now high.now n constants.now facts.now index.now }
     requires few_value { few ≡ is_few arities.now n words.now }
     requires tupled { Tupled n count }
@@ -126,7 +103,7 @@ fn try_binding(
     let best = l.best;
     let mut objects = [0u64; PARAMETERS];
     objects_at(i, n, count, &mut objects);
-    let v = valuing::climb(
+    let b = valuing::climb(
         arities,
         words,
         high,
@@ -138,8 +115,8 @@ fn try_binding(
         few,
         plain,
         best,
-    );
-    taken(v, l, action, count, i)
+    )?;
+    Ok(raised(l, b, action, count, i))
 }
 
 // Whether no tuple passes the best so far: the first way of working may be taken, and no leaf is that high.
@@ -147,11 +124,7 @@ fn is_settled(words: &[u64], high: &[u64], few: bool, best: u64) -> bool
     requires { Rooted words.now high.now }
     ensures { result ≡ settled words.now high.now few best }
 {
-    if !few {
-        return false;
-    }
-    let root = words.len() / 3 - 1;
-    high[root] < best
+    few && high[words.len() / 3 - 1] < best
 }
 
 // The best so far and the tuples of an action, one after the other, until none that is left can pass it.
@@ -169,7 +142,7 @@ fn try_bindings(
     count: usize,
     total: u64,
     first: Lead,
-) -> Led
+) -> Result<Lead, Refusal>
     requires prepared { Prepared arities.now words.now high.now n constants.now facts.now index.now }
     requires few_value { few ≡ is_few arities.now n words.now }
     requires tupled { Tupled n count }
@@ -179,22 +152,16 @@ fn try_bindings(
     ensures { Rates n (bindings_lent arities.now words.now n constants.now facts.now action count first) result }
 {
     let mut l = first;
-    let mut i = 0;
-    while i < total {
+    for i in 0..total {
         let best = l.best;
         if is_settled(words, high, few, best) {
-            return Led::To(l);
+            return Ok(l);
         }
-        let r = try_binding(
+        l = try_binding(
             arities, words, high, n, constants, facts, index, few, plain, action, count, i, l,
-        );
-        let Led::To(next) = r else {
-            return r;
-        };
-        l = next;
-        i += 1;
+        )?;
     }
-    Led::To(l)
+    Ok(l)
 }
 
 // The best so far and the moves of an action, whose regressed sum is lent: its rows' highest leaves are made once.
@@ -208,7 +175,7 @@ fn try_sum(
     action: usize,
     count: usize,
     l: Lead,
-) -> Led
+) -> Result<Lead, Refusal>
     requires words_value { is_listing arities.now words.now ≡ true }
     requires placed { Placed arities.now n constants.now facts.now index.now }
     requires count_le_parameter_count { count ≤ parameter_count }
@@ -225,16 +192,6 @@ fn try_sum(
     )
 }
 
-// The answer of a step that was refused, as that of the search.
-fn stopped(r: Step, l: Lead) -> Led
-    ensures { result ≡ stopped_as r l }
-{
-    match r {
-        Step::Rows(n) => Led::To(l),
-        Step::Refused(e) => Led::Refused(e),
-    }
-}
-
 // The best so far and the moves of an action: its regressed sum first, then its tuples.
 fn try_action(
     arities: &[u64],
@@ -249,7 +206,7 @@ fn try_action(
     value: &[u64],
     l: Lead,
     work: &mut [u64],
-) -> Led
+) -> Result<Lead, Refusal>
     requires action_task { ActionTask arities.now listings.now table.now action }
     requires value_given { ValueGiven arities.now value.now g work.old }
     requires placed { Placed arities.now n constants.now facts.now index.now }
@@ -257,10 +214,7 @@ fn try_action(
     ensures { Rates n (action_lent arities.now listings.now table.now action g n constants.now facts.now value.now l) result }
 {
     let mut sum = [0u64; diagram::RESULT_WORDS];
-    let s = planner::variants_sum(arities, listings, table, action, g, value, &mut sum, work);
-    let Step::Rows(rows) = s else {
-        return stopped(s, l);
-    };
+    let rows = planner::variants_sum(arities, listings, table, action, g, value, &mut sum, work)?;
     let count = table[action * model::ACTION_WORDS] as usize;
     try_sum(
         arities,
@@ -287,7 +241,7 @@ fn first_lead(table: &[u64], actions: usize) -> Lead
     Lead {
         best: 1,
         action: 0,
-        count: count,
+        count,
         index: 0,
     }
 }
@@ -304,26 +258,20 @@ fn try_actions(
     index: &[u64],
     value: &[u64],
     work: &mut [u64],
-) -> Led
+) -> Result<Lead, Refusal>
     requires laid { Laid arities.now listings.now table.now head }
     requires value_given { ValueGiven arities.now value.now head.numerator work.old }
     requires placed { Placed arities.now n constants.now facts.now index.now }
     ensures { Rates n (moves_lent arities.now listings.now table.now head n constants.now facts.now value.now) result }
 {
     let mut l = first_lead(table, head.actions);
-    let mut a = 0;
-    while a < head.actions {
+    for a in 0..head.actions {
         let g = head.numerator;
-        let r = try_action(
+        l = try_action(
             arities, listings, table, a, g, n, constants, facts, index, value, l, work,
-        );
-        let Led::To(next) = r else {
-            return r;
-        };
-        l = next;
-        a += 1;
+        )?;
     }
-    Led::To(l)
+    Ok(l)
 }
 
 // The move that a lead is.
@@ -345,13 +293,13 @@ fn move_of(l: Lead, n: u64) -> Chosen
 }
 
 // The answer of the search, as that of the call.
-fn answered(r: Led, n: u64) -> Chosen
+fn answered(r: Result<Lead, Refusal>, n: u64) -> Chosen
     requires { Answerable n r }
     ensures { result ≡ chosen_as (and_then (led_as n r) (λ best. ok best.move)) }
 {
     match r {
-        Led::To(l) => move_of(l, n),
-        Led::Refused(e) => Chosen::Refused(e),
+        Ok(l) => move_of(l, n),
+        Err(e) => Chosen::Refused(e),
     }
 }
 

@@ -12,27 +12,20 @@ use Rattle.apply.specs.declared.Names.{Names}
 use Rattle.apply.specs.declared.Combined.{Combined}
 use Rattle.apply.specs.declared.Combined.TheVariants.{Done as CombinedDone, Refused as CombinedRefused}
 use Rattle.apply.specs.Combination.{combine_answer, combine_result}
-use Rattle.regression.specs.declared.Regressed.{Regressed}
-use Rattle.regression.specs.declared.Regressed.TheVariants.{Done as RegressedDone, Refused as RegressedRefused}
-use Rattle.regression.specs.declared.Freed.{Freed}
-use Rattle.regression.specs.declared.Freed.TheVariants.{Done as FreedDone, Refused as FreedRefused}
 use Rattle.regression.specs.RegressCall.{regress_answer, regress_result, free_answer, free_result}
 use Rattle.cutting.specs.declared.Edge.{Edge}
 use Rattle.cutting.specs.declared.Cut.{Cut}
 use Rattle.cutting.specs.declared.Cut.TheVariants.{Done as CutDone, Refused as CutRefused}
 use Rattle.cutting.specs.Cut.{cut_answer, cut_buffer}
-use Rattle.reduction.specs.declared.Reduced.{Reduced}
-use Rattle.reduction.specs.declared.Reduced.TheVariants.{Done as ReducedDone, Refused as ReducedRefused}
 use Rattle.reduction.specs.Reduction.{reduce_call, answer_of, buffer_of}
-use Rattle.state.specs.declared.Valued.{Valued}
-use Rattle.state.specs.declared.Valued.TheVariants.{Value, Refused as ValuedRefused}
 use Rattle.elimination.specs.Answer.{value_answer}
 use Rattle.texts.specs.declared.Ran.{Ran}
 use Rattle.texts.specs.declared.Ran.TheVariants.{Done as RanDone, Full}
 use Rattle.texts.specs.Running.{filled, Fills}
-use Rattle.c_library.specs.Answers.{combined_number, combined_rows, combined_pairs, regressed_number, regressed_rows, freed_number, freed_rows, cut_number, cut_row, edge_number, cut_edge}
-use Rattle.c_library.specs.Answers.{cut_rows, reduced_number, reduced_rows, valued_number, valued_value, listing_number, full_number, ran_number, ran_bytes, ran_lines}
+use Rattle.c_library.specs.Answers.{combined_number, combined_rows, combined_pairs, rows_number, rows_after, cut_number, cut_row, edge_number, cut_edge}
+use Rattle.c_library.specs.Answers.{cut_rows, valued_number, valued_value, listing_number, full_number, ran_number, ran_bytes, ran_lines}
 use Rattle.c_library.specs.Calls.{Combines, Regresses, Frees, Cuts, Reduces, Values, Runs}
+use Rattle.std.specs.Prelude.{Err, Ok, Result}
 
 module _ {op : Operation} {names : Names} {ar x y out work : List ℕ} (rows pairs : ℕ) {a : Combined} {out' : List ℕ}
     (q : a ≡ combine_answer op names ar x y (length out) (length work)) (b : out' ≡ combine_result op names ar x y (length work) out) where
@@ -51,14 +44,6 @@ module _ {op : Operation} {names : Names} {ar x y out work : List ℕ} (rows pai
     row_count = ap (λ (z : Combined). combined_rows z rows) (sym e ∙ q);
     pair-count = ap (λ (z : Combined). combined_pairs z pairs) (sym e ∙ q);
   }
-
-module _ {ar value truths spans out work : List ℕ} (rows : ℕ) {a : Regressed} {out' : List ℕ}
-    (q : a ≡ regress_answer ar value truths spans (length out) (length work)) (b : out' ≡ regress_result ar value truths spans (length work) out) where
-  pub regressed-done : {n : ℕ} → a ≡ RegressedDone n → Regresses ar value truths spans out work rows 0 out' n
-  regressed-done e = record { answer = ap regressed_number (sym e ∙ q); buffer = b; row_count = ap (λ (z : Regressed). regressed_rows z rows) (sym e ∙ q) }
-
-  pub regressed-refused : {why : Refusal} {k : ℕ} → a ≡ RegressedRefused why → k ≡ number_of why → Regresses ar value truths spans out work rows k out' rows
-  regressed-refused e h = record { answer = h ∙ ap regressed_number (sym e ∙ q); buffer = b; row_count = ap (λ (z : Regressed). regressed_rows z rows) (sym e ∙ q) }
 
 module _ {ar words out work : List ℕ} (row edge rows : ℕ) {a : Cut} {out' : List ℕ}
     (q : a ≡ cut_answer ar words (length out) (length work)) (b : out' ≡ cut_buffer ar words out (length work)) where
@@ -80,28 +65,20 @@ module _ {ar words out work : List ℕ} (row edge rows : ℕ) {a : Cut} {out' : 
     row_count = ap (λ (z : Cut). cut_rows z rows) (sym e ∙ q);
   }
 
-module _ {ar words out work : List ℕ} (rows : ℕ) {a : Reduced} {out' : List ℕ}
+module _ {ar words out work : List ℕ} (rows : ℕ) {a : Result ℕ Refusal} {out' : List ℕ}
     (q : a ≡ answer_of (reduce_call ar words (length out) (length work))) (b : out' ≡ buffer_of out (reduce_call ar words (length out) (length work))) where
-  pub reduced-done : {n : ℕ} → a ≡ ReducedDone n → Reduces ar words out work rows 0 out' n
-  reduced-done e = record { answer = ap reduced_number (sym e ∙ q); buffer = b; row_count = ap (λ (z : Reduced). reduced_rows z rows) (sym e ∙ q) }
+  pub reduced-done : {n : ℕ} → a ≡ Ok n → Reduces ar words out work rows 0 out' n
+  reduced-done e = record { answer = ap rows_number (sym e ∙ q); buffer = b; row_count = ap (λ (z : Result ℕ Refusal). rows_after z rows) (sym e ∙ q) }
 
-  pub reduced-refused : {why : Refusal} {k : ℕ} → a ≡ ReducedRefused why → k ≡ number_of why → Reduces ar words out work rows k out' rows
-  reduced-refused e h = record { answer = h ∙ ap reduced_number (sym e ∙ q); buffer = b; row_count = ap (λ (z : Reduced). reduced_rows z rows) (sym e ∙ q) }
+  pub reduced-refused : {why : Refusal} {k : ℕ} → a ≡ Err why → k ≡ number_of why → Reduces ar words out work rows k out' rows
+  reduced-refused e h = record { answer = h ∙ ap rows_number (sym e ∙ q); buffer = b; row_count = ap (λ (z : Result ℕ Refusal). rows_after z rows) (sym e ∙ q) }
 
-module _ {ar words : List ℕ} {count : ℕ} {out work : List ℕ} (rows : ℕ) {a : Freed} {out' : List ℕ}
-    (q : a ≡ free_answer ar words count (length out) (length work)) (b : out' ≡ free_result ar words count (length work) out) where
-  pub freed-done : {n : ℕ} → a ≡ FreedDone n → Frees ar words count out work rows 0 out' n
-  freed-done e = record { answer = ap freed_number (sym e ∙ q); buffer = b; row_count = ap (λ (z : Freed). freed_rows z rows) (sym e ∙ q) }
+module _ {ar words : List ℕ} {n : ℕ} {constants facts : List ℕ} (value : ℕ) {a : Result ℕ Refusal} (q : a ≡ value_answer ar words n constants facts) where
+  pub valued-done : {v : ℕ} → a ≡ Ok v → Values ar words n constants facts value 0 v
+  valued-done e = record { answer = ap valued_number (sym e ∙ q); highest = ap (λ (z : Result ℕ Refusal). valued_value z value) (sym e ∙ q) }
 
-  pub freed-refused : {why : Refusal} {k : ℕ} → a ≡ FreedRefused why → k ≡ number_of why → Frees ar words count out work rows k out' rows
-  freed-refused e h = record { answer = h ∙ ap freed_number (sym e ∙ q); buffer = b; row_count = ap (λ (z : Freed). freed_rows z rows) (sym e ∙ q) }
-
-module _ {ar words : List ℕ} {n : ℕ} {constants facts : List ℕ} (value : ℕ) {a : Valued} (q : a ≡ value_answer ar words n constants facts) where
-  pub valued-done : {v : ℕ} → a ≡ Value v → Values ar words n constants facts value 0 v
-  valued-done e = record { answer = ap valued_number (sym e ∙ q); highest = ap (λ (z : Valued). valued_value z value) (sym e ∙ q) }
-
-  pub valued-refused : {why : Refusal} {k : ℕ} → a ≡ ValuedRefused why → k ≡ number_of why → Values ar words n constants facts value k value
-  valued-refused e h = record { answer = h ∙ ap valued_number (sym e ∙ q); highest = ap (λ (z : Valued). valued_value z value) (sym e ∙ q) }
+  pub valued-refused : {why : Refusal} {k : ℕ} → a ≡ Err why → k ≡ number_of why → Values ar words n constants facts value k value
+  valued-refused e h = record { answer = h ∙ ap valued_number (sym e ∙ q); highest = ap (λ (z : Result ℕ Refusal). valued_value z value) (sym e ∙ q) }
 
 module _ {b c : Bool} (q : b ≡ c) where
   pub listing-is : b ≡ true → 0 ≡ listing_number c

@@ -18,8 +18,6 @@ use Rattle.diagram.specs.Sizes.{result_words}
 use Rattle.names.specs.Layout.{name_words}
 use Rattle.model.specs.Layout.{listing_words, table_words}
 use Rattle.answers.specs.declared.Answer.TheVariants.{Refused}
-use Rattle.answers.specs.declared.Put.{Put}
-use Rattle.answers.specs.declared.Put.TheVariants.{At, Full}
 use Rattle.answers.specs.Inner.{put_answer, put_result, Placed}
 use Rattle.answers.specs.Writing.{most_bytes}
 use Rattle.session.specs.declared.Part.{Part}
@@ -59,6 +57,7 @@ use Rattle.c_library.specs.Answers.{room_number, entry_number}
 use Rattle.c_library.specs.Inner.{position_at, put_end}
 use Rattle.c_library.specs.Sessions.{has_room, OpenOrLeft, Opens, has_rooms, is_plain, can_answer, is_open, progress_at, IsAnswered, IsUntouched, DoneOrLeft, starts_after, Replies}
 use Rattle.c_library.specs.Sessions.{answered_lines, answered_starts, AreAnswered, AreUntouched, RepliesAll, can_close, closing_at, IsClosed, IsUnclosed, Closes}
+use Rattle.std.specs.Prelude.{None, Option, Some}
 
 -- ===== Room =====
 
@@ -348,13 +347,13 @@ pub line-few : {numbers : List ℕ} {w : Memory} {work answer : List ℕ} {p : P
 line-few g e = omega (arith, g.lines, ap (λ (q : Position). q.lines) e)
 
 -- an answer that has room
-module _ {s answer answer' : List ℕ} {r : Put} (g : most_bytes ≤ length answer) (short : length s ≤ most_bytes) (x : Placed answer 0 s r answer') where
+module _ {s answer answer' : List ℕ} {r : Option ℕ} (g : most_bytes ≤ length answer) (short : length s ≤ most_bytes) (x : Placed answer 0 s r answer') where
   has-place : leb (0 + length s) (length answer) ≡ true
   has-place = le-leb (0 + length s) (length answer) (omega (arith, short, g))
 
   placed_end : put_end r ≡ length s
   unfolding put_answer
-  placed_end = ap put_end (x.answer ∙ ap (λ (b : Bool). cond b (At (0 + length s)) Full) has-place) ∙ zero-add (length s)
+  placed_end = ap put_end (x.answer ∙ ap (λ (b : Bool). cond b (Some (0 + length s)) None) has-place) ∙ zero-add (length s)
 
   placed-buffer : answer' ≡ s ++ drop (length s) answer
   unfolding put_result

@@ -5,20 +5,14 @@ use Rattle.refusal.specs.Numbers.{number_of}
 use Rattle.refusal.specs.declared.Refusal.TheVariants.{Listing, Buffer}
 use Rattle.apply.specs.declared.Combined.{Combined}
 use Rattle.apply.specs.declared.Combined.TheVariants.{Done as CombinedDone, Refused as CombinedRefused}
-use Rattle.regression.specs.declared.Regressed.{Regressed}
-use Rattle.regression.specs.declared.Regressed.TheVariants.{Done as RegressedDone, Refused as RegressedRefused}
-use Rattle.regression.specs.declared.Freed.{Freed}
-use Rattle.regression.specs.declared.Freed.TheVariants.{Done as FreedDone, Refused as FreedRefused}
 use Rattle.cutting.specs.declared.Edge.{Edge}
 use Rattle.cutting.specs.declared.Edge.TheVariants.{True, False}
 use Rattle.cutting.specs.declared.Cut.{Cut}
 use Rattle.cutting.specs.declared.Cut.TheVariants.{Done as CutDone, Refused as CutRefused}
-use Rattle.reduction.specs.declared.Reduced.{Reduced}
-use Rattle.reduction.specs.declared.Reduced.TheVariants.{Done as ReducedDone, Refused as ReducedRefused}
-use Rattle.state.specs.declared.Valued.{Valued}
-use Rattle.state.specs.declared.Valued.TheVariants.{Value, Refused as ValuedRefused}
 use Rattle.texts.specs.declared.Ran.{Ran}
 use Rattle.texts.specs.declared.Ran.TheVariants.{Done as RanDone, Full}
+use Rattle.refusal.specs.declared.Refusal.{Refusal}
+use Rattle.std.specs.Prelude.{Err, Ok, Result}
 
 -- a combination: its number, its rows and its pairs
 abbrev pub combined_number : Combined → ℕ
@@ -33,23 +27,14 @@ abbrev pub combined_pairs : Combined → ℕ → ℕ
 combined_pairs (CombinedDone n p) before = p
 combined_pairs (CombinedRefused r) before = before
 
--- a regression: its number and its rows
-abbrev pub regressed_number : Regressed → ℕ
-regressed_number (RegressedDone n) = 0
-regressed_number (RegressedRefused r) = number_of r
+-- a regression, freeing or a reduction: its number and the rows that it leaves
+abbrev pub rows_number : Result ℕ Refusal → ℕ
+rows_number (Ok n) = 0
+rows_number (Err r) = number_of r
 
-abbrev pub regressed_rows : Regressed → ℕ → ℕ
-regressed_rows (RegressedDone n) before = n
-regressed_rows (RegressedRefused r) before = before
-
--- freeing: its number and its rows
-abbrev pub freed_number : Freed → ℕ
-freed_number (FreedDone n) = 0
-freed_number (FreedRefused r) = number_of r
-
-abbrev pub freed_rows : Freed → ℕ → ℕ
-freed_rows (FreedDone n) before = n
-freed_rows (FreedRefused r) before = before
+abbrev pub rows_after : Result ℕ Refusal → ℕ → ℕ
+rows_after (Ok n) before = n
+rows_after (Err r) before = before
 
 -- a cut: its number, the row and the edge that went (1 for the true edge, 0 for the false one) and the rows left
 abbrev pub cut_number : Cut → ℕ
@@ -72,23 +57,14 @@ abbrev pub cut_rows : Cut → ℕ → ℕ
 cut_rows (CutDone k e n) before = n
 cut_rows (CutRefused r) before = before
 
--- a reduction: its number and the rows left
-abbrev pub reduced_number : Reduced → ℕ
-reduced_number (ReducedDone n) = 0
-reduced_number (ReducedRefused r) = number_of r
-
-abbrev pub reduced_rows : Reduced → ℕ → ℕ
-reduced_rows (ReducedDone n) before = n
-reduced_rows (ReducedRefused r) before = before
-
 -- valuing: its number and the value
-abbrev pub valued_number : Valued → ℕ
-valued_number (Value v) = 0
-valued_number (ValuedRefused r) = number_of r
+abbrev pub valued_number : Result ℕ Refusal → ℕ
+valued_number (Ok v) = 0
+valued_number (Err r) = number_of r
 
-abbrev pub valued_value : Valued → ℕ → ℕ
-valued_value (Value v) before = v
-valued_value (ValuedRefused r) before = before
+abbrev pub valued_value : Result ℕ Refusal → ℕ → ℕ
+valued_value (Ok v) before = v
+valued_value (Err r) before = before
 
 -- the check of a listing
 abbrev pub listing_number : Bool → ℕ

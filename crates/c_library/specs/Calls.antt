@@ -8,8 +8,8 @@ use Rattle.cutting.specs.Cut.{cut_answer, cut_buffer}
 use Rattle.reduction.specs.Reduction.{reduce_call, answer_of, buffer_of}
 use Rattle.elimination.specs.Answer.{value_answer}
 use Rattle.texts.specs.Running.{filled, in_front}
-use Rattle.c_library.specs.Answers.{combined_number, combined_rows, combined_pairs, regressed_number, regressed_rows, freed_number, freed_rows, cut_number, cut_row, cut_edge, cut_rows}
-use Rattle.c_library.specs.Answers.{reduced_number, reduced_rows, valued_number, valued_value, ran_number, ran_bytes, ran_lines}
+use Rattle.c_library.specs.Answers.{combined_number, combined_rows, combined_pairs, rows_number, rows_after, cut_number, cut_row, cut_edge, cut_rows}
+use Rattle.c_library.specs.Answers.{valued_number, valued_value, ran_number, ran_bytes, ran_lines}
 
 -- a combination of x and y; r is the answer, and a dash marks what is lent after the call
 pub record Combines (op : Operation) (names : Names) (ar x y out work : List ℕ) (rows pairs r : ℕ) (out' : List ℕ) (rows' pairs' : ℕ) : Type 0 where
@@ -20,15 +20,15 @@ pub record Combines (op : Operation) (names : Names) (ar x y out work : List ℕ
 
 -- the regression of a value listing under truth diagrams
 pub record Regresses (ar value truths spans out work : List ℕ) (rows r : ℕ) (out' : List ℕ) (rows' : ℕ) : Type 0 where
-  pub answer : r ≡ regressed_number (regress_answer ar value truths spans (length out) (length work))
+  pub answer : r ≡ rows_number (regress_answer ar value truths spans (length out) (length work))
   pub buffer : out' ≡ regress_result ar value truths spans (length work) out
-  pub row_count : rows' ≡ regressed_rows (regress_answer ar value truths spans (length out) (length work)) rows
+  pub row_count : rows' ≡ rows_after (regress_answer ar value truths spans (length out) (length work)) rows
 
 -- freeing the parameters of an action that has `count` of them
 pub record Frees (ar words : List ℕ) (count : ℕ) (out work : List ℕ) (rows r : ℕ) (out' : List ℕ) (rows' : ℕ) : Type 0 where
-  pub answer : r ≡ freed_number (free_answer ar words count (length out) (length work))
+  pub answer : r ≡ rows_number (free_answer ar words count (length out) (length work))
   pub buffer : out' ≡ free_result ar words count (length work) out
-  pub row_count : rows' ≡ freed_rows (free_answer ar words count (length out) (length work)) rows
+  pub row_count : rows' ≡ rows_after (free_answer ar words count (length out) (length work)) rows
 
 -- a cut of a listing
 pub record Cuts (ar words out work : List ℕ) (row edge rows r : ℕ) (out' : List ℕ) (row' edge' rows' : ℕ) : Type 0 where
@@ -40,9 +40,9 @@ pub record Cuts (ar words out work : List ℕ) (row edge rows r : ℕ) (out' : L
 
 -- the reduction of a listing by model checking (document 02, L13)
 pub record Reduces (ar words out work : List ℕ) (rows r : ℕ) (out' : List ℕ) (rows' : ℕ) : Type 0 where
-  pub answer : r ≡ reduced_number (answer_of (reduce_call ar words (length out) (length work)))
+  pub answer : r ≡ rows_number (answer_of (reduce_call ar words (length out) (length work)))
   pub buffer : out' ≡ buffer_of out (reduce_call ar words (length out) (length work))
-  pub row_count : rows' ≡ reduced_rows (answer_of (reduce_call ar words (length out) (length work))) rows
+  pub row_count : rows' ≡ rows_after (answer_of (reduce_call ar words (length out) (length work))) rows
 
 -- valuing a listing in a state of n objects
 pub record Values (ar words : List ℕ) (n : ℕ) (constants facts : List ℕ) (value r value' : ℕ) : Type 0 where

@@ -1,9 +1,8 @@
 -- What contracts of inner functions and proofs cite. Nothing here has to be believed.
 use Rattle.std.specs.Prelude.{List, ℕ}
-use Rattle.answers.specs.declared.Put.{Put}
-use Rattle.answers.specs.declared.Put.TheVariants.{At, Full}
 use Rattle.texts.specs.declared.Position.{Position}
 use Rattle.memory.specs.Saving.{numbers_at, lines_at, met_at}
+use Rattle.std.specs.Prelude.{None, Option, Some}
 
 -- ===== Lines =====
 
@@ -12,6 +11,6 @@ abbrev pub position_at : List ℕ → Position
 position_at numbers = record { numbers = numbers_at numbers; lines = lines_at numbers; met = met_at numbers; end = 0 }
 
 -- the place behind an answer that has room
-abbrev pub put_end : Put → ℕ
-put_end (At n) = n
-put_end Full = 0
+abbrev pub put_end : Option ℕ → ℕ
+put_end (Some n) = n
+put_end None = 0

@@ -8,19 +8,15 @@ ghost use Rattle.apply.specs.declared.Names.TheVariants.{Apart, Shared};
 ghost use Rattle.memory.specs.Memory.{memory_of, work_words};
 ghost use Rattle.memory.specs.Saving.{number_words};
 ghost use Rattle.answers.specs.Writing.{most_bytes};
-ghost use Rattle.c_library.specs.Answers.{listing_number, edge_number, entry_number};
+ghost use Rattle.c_library.specs.Answers.{rows_number, rows_after, listing_number, edge_number, entry_number};
 ghost use Rattle.c_library.specs.Calls.{Combines, Regresses, Frees, Cuts, Reduces, Values, Runs};
 ghost use Rattle.c_library.specs.Inner.{position_at, put_end};
 ghost use Rattle.c_library.specs.Sessions.{has_room, Opens, has_rooms, is_plain, can_answer, is_open, Replies, RepliesAll, can_close, Closes};
 
-use answers::Put;
 use apply::{Combined, Names, Operation};
 use cutting::{Cut, Edge};
 use label::Label;
-use reduction::Reduced;
 use refusal::Refusal;
-use regression::{Freed, Regressed};
-use state::Valued;
 use texts::{Position, Ran};
 
 // Whether the words are a listing under the arity list: 0, or 14.
@@ -48,8 +44,7 @@ fn combined(
 ) -> u64
     ensures { Combines op names arities.now first.now second.now res.old work.old rows.old pairs.old result res.new rows.new pairs.new }
 {
-    let answer = combination::combine(op, names, arities, first, second, res, work);
-    match answer {
+    match combination::combine(op, names, arities, first, second, res, work) {
         Combined::Done(n, p) => {
             *rows = n as u64;
             *pairs = p as u64;
@@ -215,6 +210,20 @@ pub extern "C" fn yindolve_max_shared(
     )
 }
 
+// What a call that leaves rows answers: 0, and how many these are; or its refusal, and the count stays.
+fn told_rows(answer: Result<usize, Refusal>, rows: &mut u64) -> u64
+    ensures number { result ≡ rows_number answer }
+    ensures count { rows.new ≡ rows_after answer rows.old }
+{
+    match answer {
+        Ok(n) => {
+            *rows = n as u64;
+            0
+        }
+        Err(why) => why.number(),
+    }
+}
+
 // The regression of a value listing under truth diagrams.
 #[unsafe(no_mangle)]
 pub extern "C" fn yindolve_regress(
@@ -229,13 +238,7 @@ pub extern "C" fn yindolve_regress(
     ensures { Regresses arities.now words.now truths.now spans.now res.old work.old rows.old result res.new rows.new }
 {
     let answer = regress::regress(arities, words, truths, spans, res, work);
-    match answer {
-        Regressed::Done(n) => {
-            *rows = n as u64;
-            0
-        }
-        Regressed::Refused(why) => why.number(),
-    }
+    told_rows(answer, rows)
 }
 
 // Frees the parameters of an action that has `count` of them.
@@ -251,13 +254,7 @@ pub extern "C" fn yindolve_free_parameters(
     ensures { Frees arities.now words.now count res.old work.now rows.old result res.new rows.new }
 {
     let answer = freeing::free(arities, words, count, res, work);
-    match answer {
-        Freed::Done(n) => {
-            *rows = n as u64;
-            0
-        }
-        Freed::Refused(why) => why.number(),
-    }
+    told_rows(answer, rows)
 }
 
 // An edge as a number: 1 for the true edge, 0 for the false one.
@@ -283,8 +280,7 @@ pub extern "C" fn yindolve_cut(
 ) -> u64
     ensures { Cuts arities.now words.now res.old work.old row.old edge.old rows.old result res.new row.new edge.new rows.new }
 {
-    let answer = cut::cut(arities, words, res, work);
-    match answer {
+    match cut::cut(arities, words, res, work) {
         Cut::Done(k, e, n) => {
             *row = k as u64;
             *edge = edge_number(e);
@@ -307,13 +303,7 @@ pub extern "C" fn yindolve_reduce(
     ensures { Reduces arities.now words.now res.old work.old rows.old result res.new rows.new }
 {
     let answer = reduce::reduce(arities, words, res, work);
-    match answer {
-        Reduced::Done(n) => {
-            *rows = n as u64;
-            0
-        }
-        Reduced::Refused(why) => why.number(),
-    }
+    told_rows(answer, rows)
 }
 
 // The value of a listing in a state of n objects.
@@ -328,13 +318,12 @@ pub extern "C" fn yindolve_value(
 ) -> u64
     ensures { Values arities.now words.now objects constants.now facts.now value.old result value.new }
 {
-    let answer = valuing::value(arities, words, objects, constants, facts);
-    match answer {
-        Valued::Value(v) => {
+    match valuing::value(arities, words, objects, constants, facts) {
+        Ok(v) => {
             *value = v;
             0
         }
-        Valued::Refused(why) => why.number(),
+        Err(why) => why.number(),
     }
 }
 
@@ -351,8 +340,7 @@ pub extern "C" fn yindolve_run(
 ) -> u64
     ensures { Runs text.now answers.old lines.old result answers.new bytes.new lines.new }
 {
-    let ran = texts::run(text, answers);
-    match ran {
+    match texts::run(text, answers) {
         Ran::Done(n) => {
             *bytes = n as u64;
             0
@@ -520,24 +508,21 @@ fn position(numbers: &[u64]) -> Position
     requires { number_words ≤ length numbers.now }
     ensures { result ≡ position_at numbers.now }
 {
-    let n = memory::load(numbers);
-    let lines = memory::lines_of(numbers);
-    let met = memory::met_of(numbers);
     Position {
-        numbers: n,
-        lines: lines,
-        met: met,
+        numbers: memory::load(numbers),
+        lines: memory::lines_of(numbers),
+        met: memory::met_of(numbers),
         end: 0,
     }
 }
 
 // The place behind an answer.
-fn end_of(put: Put) -> u64
+fn end_of(put: Option<usize>) -> u64
     ensures { result ≡ put_end put }
 {
     match put {
-        Put::At(end) => end as u64,
-        Put::Full => 0,
+        Some(end) => end as u64,
+        None => 0,
     }
 }
 
@@ -565,18 +550,15 @@ pub extern "C" fn yindolve_line(
         return refusal;
     }
     let p = position(numbers);
-    let n = p.numbers;
     // In words from outside the index of the facts may be anything.
-    facts::remake_index(arities, state, n.live);
+    facts::remake_index(arities, state, p.numbers.live);
     let number = p.lines + 1;
     let met = texts::met_behind(p.met, line);
     let sent = texts::reply_line(
         line, number, p.numbers, names, arities, listings, table, state, value, work, answer, 0,
     );
-    let put = sent.put;
-    let after = sent.numbers;
-    memory::store(numbers, after, number, met);
-    *bytes = end_of(put);
+    memory::store(numbers, sent.numbers, number, met);
+    *bytes = end_of(sent.put);
     0
 }
 
@@ -614,9 +596,8 @@ pub extern "C" fn yindolve_lines(
         return refusal;
     }
     let first = position(numbers);
-    let n = first.numbers;
     // In words from outside the index of the facts may be anything.
-    facts::remake_index(arities, state, n.live);
+    facts::remake_index(arities, state, first.numbers.live);
     let reached = texts::answer_whole(
         block,
         0,
@@ -659,16 +640,13 @@ pub extern "C" fn yindolve_end(numbers: &[u64], answer: &mut [u8], bytes: &mut u
     if answer.len() < answers::MOST_BYTES {
         return Refusal::Buffer.number();
     }
-    let n = memory::load(numbers);
-    let met = memory::met_of(numbers);
     let last = Position {
-        numbers: n,
+        numbers: memory::load(numbers),
         lines: 0,
-        met: met,
+        met: memory::met_of(numbers),
         end: 0,
     };
-    let ran = texts::end(0, last, answer);
-    match ran {
+    match texts::end(0, last, answer) {
         Ran::Done(end) => {
             *bytes = end as u64;
             0

@@ -6,10 +6,7 @@ ghost use Rattle.std.specs.Prelude.{◌≤◌, ◌<◌, length};
 use apply::{Combined, Names, Operation};
 use cutting::{Cut, Edge};
 use label::{Label, Term};
-use reduction::Reduced;
 use refusal::Refusal;
-use regression::{Freed, Regressed};
-use state::Valued;
 use std::io;
 use std::io::{Read, Stdin};
 
@@ -271,17 +268,10 @@ fn tell_combined(rt: &impl Print, answer: Combined) -> io::Result<usize> {
     }
 }
 
-fn tell_regressed(rt: &impl Print, answer: Regressed) -> io::Result<usize> {
+fn tell_done(rt: &impl Print, answer: Result<usize, Refusal>) -> io::Result<usize> {
     match answer {
-        Regressed::Done(rows) => tell_rows(rt, rows),
-        Regressed::Refused(why) => tell_refusal(rt, why),
-    }
-}
-
-fn tell_freed(rt: &impl Print, answer: Freed) -> io::Result<usize> {
-    match answer {
-        Freed::Done(rows) => tell_rows(rt, rows),
-        Freed::Refused(why) => tell_refusal(rt, why),
+        Ok(rows) => tell_rows(rt, rows),
+        Err(why) => tell_refusal(rt, why),
     }
 }
 
@@ -303,20 +293,13 @@ fn tell_cut(rt: &impl Print, answer: Cut) -> io::Result<usize> {
     }
 }
 
-fn tell_reduced(rt: &impl Print, answer: Reduced) -> io::Result<usize> {
+fn tell_value(rt: &impl Print, answer: Result<u64, Refusal>) -> io::Result<usize> {
     match answer {
-        Reduced::Done(rows) => tell_rows(rt, rows),
-        Reduced::Refused(why) => tell_refusal(rt, why),
-    }
-}
-
-fn tell_value(rt: &impl Print, answer: Valued) -> io::Result<usize> {
-    match answer {
-        Valued::Value(v) => {
+        Ok(v) => {
             say(rt, "  value ", v)?;
             Ok(0)
         }
-        Valued::Refused(why) => tell_refusal(rt, why),
+        Err(why) => tell_refusal(rt, why),
     }
 }
 
@@ -391,17 +374,17 @@ fn call(
         return value(rt, desk, arities, x, y, z);
     }
     if kind == b'r' {
-        return tell_regressed(rt, regress::regress(arities, x, y, z, out, work));
+        return tell_done(rt, regress::regress(arities, x, y, z, out, work));
     }
     if kind == b'f' {
         let n = argument(desk, b'f', 0);
-        return tell_freed(rt, freeing::free(arities, x, n, out, work));
+        return tell_done(rt, freeing::free(arities, x, n, out, work));
     }
     if kind == b'c' {
         return tell_cut(rt, cut::cut(arities, x, out, work));
     }
     if kind == REDUCE {
-        return tell_reduced(rt, reduce::reduce(arities, x, out, work));
+        return tell_done(rt, reduce::reduce(arities, x, out, work));
     }
     combine(rt, desk, kind, arities, out, work)
 }
@@ -409,10 +392,7 @@ fn call(
 fn least(n: usize, most: usize) -> usize
     ensures { result ≤ most }
 {
-    if n < most {
-        return n;
-    }
-    most
+    n.min(most)
 }
 
 // The result buffer after a call.

@@ -1,16 +1,15 @@
 -- Laws of the tests, on the ways through the code.
 use mathlib.Core.Path.{◌≡◌, refl, sym, ap, subst, ◌∙◌}
-use mathlib.Core.Logic.{◌⊎◌, inl, inr}
 use mathlib.Core.Bool.{Bool, true, false, not, ◌&&◌, ◌||◌, cond}
 use mathlib.Core.List.{List, ◌++◌}
-use Prim.Native.Nat.{ℕ, suc, ◌+◌, ◌*◌, ◌-◌, ◌/◌, ◌≤◌, ◌<◌}
+use Prim.Native.Nat.{ℕ, ◌+◌, ◌*◌, ◌-◌, ◌/◌, ◌≤◌, ◌<◌}
 use native.Mathlib.Omega.{arith}
-use native.Mathlib.Nat.{eq-or-lt_of_le, le_of_suc-le-suc}
-use native.Mathlib.Numerals.{add-one}
+use Rattle.std.specs.Cmp.Lexicographic.{pointwise}
+use Rattle.std.proofs.lemmas.Slice.Eq.{slice_eq-Decides}
 use lib.ListN.{length, get_or, take, drop, replicate, length-append}
-use lib.Seq.{take_at, take_all, ext_get_or, get_or-take, length-take-le}
+use lib.Seq.{take_at, take_all}
 use lib.Dec.{leb, eqb}
-use borrow.Author.Tests.{le-leb, lt-leb, eq-eqb, ne_eqb, leb-true, leb-false, not-true, not-false}
+use borrow.Author.Tests.{le-leb, lt-leb, eq-eqb, ne_eqb, leb-true, leb-false, eqb-true, not-true, not-false}
 use Rattle.basics.specs.Tests.{Cmp, below, equal, above, cmp, Flag, is_true, is_false, flag}
 use Rattle.basics.specs.Members.{clash}
 use Rattle.refusal.specs.declared.Refusal.{Refusal}
@@ -34,8 +33,6 @@ use Rattle.listing.specs.Used.{Used}
 use Rattle.rename.specs.ClosingLaws.{closed-count, closed-good}
 use Rattle.write.specs.Renaming.{listed_in}
 use Rattle.apart.specs.Results.{Closable}
-use Rattle.truths.specs.declared.Verdict.{Verdict}
-use Rattle.truths.specs.declared.Verdict.TheVariants.{Passed as Pass, Refused}
 use Rattle.regression.specs.RegressCall.{leaf_above, any_occurs, unbound_variable}
 use Rattle.freeing.specs.FreeTasks.{any_set}
 use Rattle.freeing.specs.MarkLaws.{used-any}
@@ -44,6 +41,7 @@ use Rattle.mdp.specs.Model.{most_actions, most_variants}
 use Rattle.model.specs.Layout.{part, variant_words, action_words, table_words, variant_place, weight_words, variants_of}
 use Rattle.checking.specs.Fitting.{own_parameters, is_truth, is_weight, is_value, truth_at, truth_fits, variant_fits, action_fits}
 use Rattle.checking.specs.Lent.{Lent}
+use Rattle.std.specs.Prelude.{Err, Ok, Result}
 
 -- ===== Tests one after another =====
 
@@ -101,21 +99,21 @@ module _ (ar : List ℕ) (c n : ℕ) (ws : List ℕ) {l : Bool} (e : l ≡ is_li
   unfolding is_truth
   truth-unlisted f = stops _ (refused e f)
 
-  module _ (f : not l ≡ false) {v : Verdict} (q : v ≡ verdict_on ar n (diagram_of ws)) where
-    pub truth-refused : {w : Refusal} → v ≡ Refused w → false ≡ is_truth ar c n ws
+  module _ (f : not l ≡ false) {v : Result (Unit {0}) Refusal} (q : v ≡ verdict_on ar n (diagram_of ws)) where
+    pub truth-refused : {w : Refusal} → v ≡ Err w → false ≡ is_truth ar c n ws
     unfolding is_truth
     truth-refused {w} i = goes (passed e f) (go (leaf_above 1 (diagram_of ws)) (unbound_variable ar n (diagram_of ws)) (sym q ∙ i))
       where
-        go : (a b : Bool) → cond a (Refused Truth) (cond b (Refused Unbound) Pass) ≡ Refused w → false ≡ (not a && (not b && own_parameters ar c (diagram_of ws)))
+        go : (a b : Bool) → cond {A = Result (Unit {0}) Refusal} a (Err Truth) (cond b (Err Unbound) (Ok tt)) ≡ Err w → false ≡ (not a && (not b && own_parameters ar c (diagram_of ws)))
         go true b i = refl
         go false true i = refl
         go false false i = let z : ◌≡◌ {A = ℕ} 0 1 = cc in absurd (omega arith)
 
-    pub truth-rest : {r : Bool} → v ≡ Pass → r ≡ not (any_occurs ar (diagram_of ws) (first_parameter + c) (first_variable - (first_parameter + c))) → r ≡ is_truth ar c n ws
+    pub truth-rest : {r : Bool} → v ≡ Ok tt → r ≡ not (any_occurs ar (diagram_of ws) (first_parameter + c) (first_variable - (first_parameter + c))) → r ≡ is_truth ar c n ws
     unfolding is_truth
     truth-rest {r} i h = goes (passed e f) (go (leaf_above 1 (diagram_of ws)) (unbound_variable ar n (diagram_of ws)) (sym q ∙ i))
       where
-        go : (a b : Bool) → cond a (Refused Truth) (cond b (Refused Unbound) Pass) ≡ Pass → r ≡ (not a && (not b && own_parameters ar c (diagram_of ws)))
+        go : (a b : Bool) → cond {A = Result (Unit {0}) Refusal} a (Err Truth) (cond b (Err Unbound) (Ok tt)) ≡ Ok tt → r ≡ (not a && (not b && own_parameters ar c (diagram_of ws)))
         go true b i = let z : ◌≡◌ {A = ℕ} 0 1 = cc in absurd (omega arith)
         go false true i = let z : ◌≡◌ {A = ℕ} 0 1 = cc in absurd (omega arith)
         go false false i = h
@@ -145,31 +143,13 @@ module _ (ar ws : List ℕ) {l : Bool} (e : l ≡ is_listing ar ws) where
 
 -- ===== Closed up =====
 
--- the first i words are the same
-pub record Same (x y : List ℕ) (i : ℕ) : Type 0 where
-  pub each : (j : ℕ) → j < i → get_or x j 0 ≡ get_or y j 0
-
-pub same_start : (x y : List ℕ) → Same x y 0
-same_start x y = record { each = λ j l. absurd (omega arith) }
-
-pub same-on : {x y : List ℕ} {i : ℕ} → Same x y i → get_or x i 0 ≡ get_or y i 0 → Same x y (i + 1)
-same-on {x} {y} {i} s e = record { each = λ j l. go j (eq-or-lt_of_le (le_of_suc-le-suc (subst (λ (z : ℕ). suc j ≤ z) (add-one i) l))) }
+pub begins-tells : (x y : List ℕ) {b : Bool} → b ≡ pointwise eqb x (take (length x) y) → Decides b (x ≡ take (length x) y)
+begins-tells x y {b} p =
+    let d = slice_eq-Decides numbers-same x (take (length x) y) b p in
+    record { yes = d.0; no = λ e z. clash (d.1 z) e }
   where
-    go : (j : ℕ) → (j ≡ i) ⊎ (j < i) → get_or x j 0 ≡ get_or y j 0
-    go j (inl z) = subst (λ (k : ℕ). get_or x k 0 ≡ get_or y k 0) (sym z) e
-    go j (inr l) = s.each j l
-
-pub same_end : {x y : List ℕ} {i : ℕ} → Same x y i → length x ≤ i → length x ≤ length y → Decides true (x ≡ take (length x) y)
-same_end {x} {y} {i} s l k = record {
-  yes = λ z. ext_get_or 0 x (take (length x) y) (sym (length-take-le (length x) y k)) (λ j h. s.each j (omega arith) ∙ sym (get_or-take (length x) y j 0 h));
-  no = λ z. clash refl z;
-}
-
-pub same_not : (x y : List ℕ) (i : ℕ) → i < length x → (get_or x i 0 ≡ get_or y i 0 → ⊥) → Decides false (x ≡ take (length x) y)
-same_not x y i h f = record {
-  yes = λ z. clash z refl;
-  no = λ z e. f (ap (λ (s : List ℕ). get_or s i 0) e ∙ get_or-take (length x) y i 0 h);
-}
+    numbers-same : (m n : ℕ) → (eqb m n ≡ true → m ≡ n) × (m ≡ n → eqb m n ≡ true)
+    numbers-same m n = (eqb-true m n, eq-eqb m n)
 
 module _ (ar words : List ℕ) (e : is_listing ar words ≡ true) where
   words_long : length words ≡ length words / 3 * 3
@@ -225,8 +205,8 @@ module _ (ar words : List ℕ) (e : is_listing ar words ≡ true) where
 
 -- ===== The table =====
 
-pub inside-no : (start count used : ℕ) → used < start → false ≡ leb (start + count) used
-inside-no start count used h = sym (lt-leb (start + count) used (omega arith))
+pub inside-no : (start count used : ℕ) → used < start → leb start used ≡ leb (start + count) used
+inside-no start count used h = lt-leb start used h ∙ sym (lt-leb (start + count) used (omega arith))
 
 pub inside-rest : (start count used : ℕ) → start ≤ used → leb count (used - start) ≡ leb (start + count) used
 inside-rest start count used h = go (flag (leb count (used - start)))

@@ -15,7 +15,6 @@ ghost use Rattle.checking.specs.Fitting.{is_truth, is_weight, is_value, truth_fi
 ghost use Rattle.checking.specs.Lent.{Lent};
 
 use label::{Label, Term};
-use truths::Verdict;
 
 // Whether none of the n terms from `first` on occurs in a listing.
 fn lacks(arities: &[u64], words: &[u64], first: usize, n: usize) -> bool
@@ -38,7 +37,7 @@ fn is_truth(arities: &[u64], words: &[u64], c: usize, n: usize) -> bool
         return false;
     }
     let v = truths::judge(arities, words, n);
-    let Verdict::Passed = v else {
+    let Ok(()) = v else {
         return false;
     };
     let first = (Term::FIRST_PARAMETER as usize) + c;
@@ -67,14 +66,7 @@ fn begins(x: &[u64], y: &[u64]) -> bool
     requires { length x.now ≤ length y.now }
     ensures { Decides result (x.now ≡ take (length x.now) y.now) }
 {
-    let mut i = 0;
-    while i < x.len() {
-        if x[i] != y[i] {
-            return false;
-        }
-        i += 1;
-    }
-    true
+    y.starts_with(x)
 }
 
 // Whether a listing is closed up: closing it up changes no word.
@@ -112,10 +104,7 @@ pub fn is_value(arities: &[u64], words: &[u64]) -> bool
 pub fn is_inside(start: usize, count: usize, used: usize) -> bool
     ensures { result ≡ leb (start + count) used }
 {
-    if start > used {
-        return false;
-    }
-    count <= used - start
+    start <= used && count <= used - start
 }
 
 // Whether the truth diagram of the predicate p, of the variant at a place, is fit for an action of c parameters, if there is one.
@@ -161,12 +150,10 @@ fn truths_fit(
     requires variant_words_in_bounds { place + variant_words ≤ length table.now }
     ensures { result ≡ every_below predicate_count (truth_fits arities.now listings.now table.now used c place) }
 {
-    let mut p = 0;
-    while p < Label::PREDICATES {
+    for p in 0..Label::PREDICATES {
         if !truth_fits(arities, listings, table, used, c, place, p) {
             return false;
         }
-        p += 1;
     }
     true
 }
@@ -210,13 +197,11 @@ fn variants_fit(
     requires n_le_most_variants { n ≤ most_variants }
     ensures { result ≡ every_below n (λ v. variant_fits arities.now listings.now table.now used c (variant_place a v)) }
 {
-    let mut v = 0;
-    while v < n {
+    for v in 0..n {
         let place = a * model::ACTION_WORDS + 2 + v * model::VARIANT_WORDS;
         if !variant_fits(arities, listings, table, used, c, place) {
             return false;
         }
-        v += 1;
     }
     true
 }
@@ -245,12 +230,10 @@ pub fn actions_fit(arities: &[u64], listings: &[u64], table: &[u64], used: usize
     requires n_le_most_actions { n ≤ most_actions }
     ensures { result ≡ actions_fit arities.now listings.now table.now used n }
 {
-    let mut a = 0;
-    while a < n {
+    for a in 0..n {
         if !action_fits(arities, listings, table, used, a) {
             return false;
         }
-        a += 1;
     }
     true
 }

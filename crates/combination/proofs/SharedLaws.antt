@@ -1,7 +1,7 @@
 -- The ways through a shared combination.
 use mathlib.Core.Path.{◌≡◌, refl, sym, ap, ◌∙◌, subst}
 use mathlib.Core.List.{List, [], ◌++◌}
-use Prim.Native.Nat.{ℕ, suc, pred, ◌+◌, ◌*◌, ◌-◌, ◌/◌, ◌≤◌, ◌<◌}
+use Prim.Native.Nat.{ℕ, suc, pred, ◌*◌, ◌-◌, ◌/◌, ◌≤◌, ◌<◌}
 use native.Mathlib.Omega.{arith}
 use lib.ListN.{length, take, drop, replicate, length-replicate, get_or-replicate}
 use lib.Seq.{length-take-le}
@@ -164,7 +164,7 @@ module _ (op : Operation) (ar : List ℕ) (a b : Diagram) where
       ∙ written-listing-words s (apply (operate op) a b) (subst (Written s) z h.written) (omega (arith, h.table.words, h.table.within))
       ∙ ap listing (sym combination-is)
 
--- shared_few and shared_many
+-- shared_with
 pub shared-in : (op : Operation) (limit : ℕ) (ar x y work : List ℕ) {r : Joined} {s heads links hs : List ℕ} → Operands ar x y work
     → Joint op limit (tree x (length x / 3 - 1)) (tree y (length y / 3 - 1)) work 0 r s heads links hs → SharedIn op limit x y work r s
 shared-in op limit ar x y work {r} {s} {heads} {links} {hs} c j = record {
@@ -221,14 +221,3 @@ shared-out op ar x y {work} {out} {r} {s} {q} {out'} j f = record {
     buffer TooManyPairs e h k = refl
     buffer TooHighValue e h k = refl
     buffer NoRoom e h k = refl
-
--- the arms of combine_shared: an answer taken apart and put together again
-module _ {op : Operation} {x y work : List ℕ} {r : Joined} {s : List ℕ} (j : SharedIn op few x y work r s) where
-  pub arm_at : {i n p : ℕ} → r ≡ At i n p → SharedIn op most_pairs x y work (At i n p) s
-  arm_at {i} {n} {p} e = few-many (λ z. let k : At i n p ≡ TooManyPairs = z in let q : ◌≡◌ {A = ℕ} 0 1 = cc in omega arith) (subst (λ (z : Joined). SharedIn op few x y work z s) e j)
-
-  pub arm-high : r ≡ TooHighValue → SharedIn op most_pairs x y work TooHighValue s
-  arm-high e = few-many (λ z. let k : TooHighValue ≡ TooManyPairs = z in let q : ◌≡◌ {A = ℕ} 0 1 = cc in omega arith) (subst (λ (z : Joined). SharedIn op few x y work z s) e j)
-
-  pub arm_full : r ≡ NoRoom → SharedIn op most_pairs x y work NoRoom s
-  arm_full e = few-many (λ z. let k : NoRoom ≡ TooManyPairs = z in let q : ◌≡◌ {A = ℕ} 0 1 = cc in omega arith) (subst (λ (z : Joined). SharedIn op few x y work z s) e j)

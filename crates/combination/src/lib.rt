@@ -1,7 +1,7 @@
 // Public calls: sum, product and max of two lent listings, with names apart or shared.
 #![tactic(auto)]
 
-ghost use Rattle.std.specs.Prelude.{◌≡◌, length};
+ghost use Rattle.std.specs.Prelude.{◌≡◌, ◌*◌, ◌≤◌, length};
 ghost use Rattle.diagram.specs.Listing.{diagram_of};
 ghost use Rattle.diagram.specs.Validity.{Valid};
 ghost use Rattle.diagram.specs.Variables.{is_plain};
@@ -9,7 +9,7 @@ ghost use Rattle.apply.specs.Combination.{done_as, combine_answer, combine_resul
 ghost use Rattle.apply.specs.declared.Operation.TheVariants.{Max};
 ghost use Rattle.apply.specs.declared.Names.TheVariants.{Shared};
 ghost use Rattle.combine.specs.declared.Joined.TheVariants.{At};
-ghost use Rattle.combine.specs.Calls.{few, Callable, CombineAnswered};
+ghost use Rattle.combine.specs.Calls.{Callable, CombineAnswered};
 ghost use Rattle.combination.specs.Finishing.{Finishable, Finished};
 ghost use Rattle.combination.specs.Sharing.{Operands, SharedIn};
 ghost use Rattle.diagram.specs.Sizes.{most_pairs};
@@ -44,57 +44,28 @@ fn finish(r: Joined, space: &[u64], out: &mut [u64]) -> Combined
     }
 }
 
-// Combines the roots of two listings in an empty working space, with room for few pairs.
-fn shared_few(op: Operation, arities: &[u64], x: &[u64], y: &[u64], work: &mut [u64]) -> Joined
-    requires { Operands arities.now x.now y.now work.old }
-    ensures { SharedIn op few x.now y.now work.old result work.new }
+// Combines the roots of two listings in an empty working space, with room for `limit` pairs in a plan of that many words.
+fn shared_with<const WORDS: usize>(
+    op: Operation,
+    arities: &[u64],
+    x: &[u64],
+    y: &[u64],
+    limit: usize,
+    work: &mut [u64],
+) -> Joined
+    requires operands { Operands arities.now x.now y.now work.old }
+    requires room { limit * 5 ≤ WORDS }
+    requires words_le_most { WORDS ≤ most_pairs * 5 }
+    ensures { SharedIn op limit x.now y.now work.old result work.new }
 {
-    let mut plan = [0u64; combine::FEW_WORDS];
+    let mut plan = [0u64; WORDS];
     let mut index = [0u16; plan::BUCKETS];
     let mut heads = [0u16; table::BUCKETS];
     let mut links = [0u16; diagram::SPACE_ROWS];
     let i = x.len() / 3 - 1;
     let j = y.len() / 3 - 1;
     combine::join_listings(
-        x,
-        y,
-        &mut plan,
-        &mut index,
-        combine::FEW,
-        i,
-        j,
-        op,
-        work,
-        &mut heads,
-        &mut links,
-        0,
-    )
-}
-
-// The same, with room for all pairs that a call may have.
-fn shared_many(op: Operation, arities: &[u64], x: &[u64], y: &[u64], work: &mut [u64]) -> Joined
-    requires { Operands arities.now x.now y.now work.old }
-    ensures { SharedIn op most_pairs x.now y.now work.old result work.new }
-{
-    let mut plan = [0u64; combine::PLAN_WORDS];
-    let mut index = [0u16; plan::BUCKETS];
-    let mut heads = [0u16; table::BUCKETS];
-    let mut links = [0u16; diagram::SPACE_ROWS];
-    let i = x.len() / 3 - 1;
-    let j = y.len() / 3 - 1;
-    combine::join_listings(
-        x,
-        y,
-        &mut plan,
-        &mut index,
-        diagram::PAIRS,
-        i,
-        j,
-        op,
-        work,
-        &mut heads,
-        &mut links,
-        0,
+        x, y, &mut plan, &mut index, limit, i, j, op, work, &mut heads, &mut links, 0,
     )
 }
 
@@ -110,7 +81,7 @@ fn combine_many(
     requires { Callable arities.now x.now y.now out.old work.old }
     ensures { CombineAnswered op Shared arities.now x.now y.now out.old result out.new }
 {
-    let r = shared_many(op, arities, x, y, work);
+    let r = shared_with::<{ combine::PLAN_WORDS }>(op, arities, x, y, diagram::PAIRS, work);
     finish(r, work, out)
 }
 
@@ -133,12 +104,10 @@ pub fn combine_shared(
     if y.len() / 3 > combine::FEW {
         return combine_many(op, arities, x, y, out, work);
     }
-    let r = shared_few(op, arities, x, y, work);
+    let r = shared_with::<{ combine::FEW_WORDS }>(op, arities, x, y, combine::FEW, work);
     match r {
         Joined::TooManyPairs => combine_many(op, arities, x, y, out, work),
-        Joined::At(i, rows, pairs) => finish(Joined::At(i, rows, pairs), work, out),
-        Joined::TooHighValue => finish(Joined::TooHighValue, work, out),
-        Joined::NoRoom => finish(Joined::NoRoom, work, out),
+        _ => finish(r, work, out),
     }
 }
 
@@ -177,8 +146,7 @@ fn done_as(op: Operation, names: Names, arities: &[u64], x: &[u64], y: &[u64]) -
     ensures { result ≡ done_as op names arities.now (diagram_of x.now) (diagram_of y.now) }
 {
     match op {
-        Operation::Sum => names,
-        Operation::Product => names,
+        Operation::Sum | Operation::Product => names,
         Operation::Max => max_as(names, arities, x, y),
     }
 }

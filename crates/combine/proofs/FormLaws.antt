@@ -27,12 +27,11 @@ use Rattle.store.proofs.SpaceLaws.{length-diagrams, diagram-at, formation-row, f
 use Rattle.plan.specs.Plan.{pair_label_at, first_at, second_at}
 use Rattle.store.specs.Space.{diagrams_of, Holds, Children, form_answer, Formation, add_all}
 use Rattle.store.specs.AddLaws.{add-all-none, add-all-snoc, add-all-more}
-use Rattle.store.specs.declared.Formed.{Formed}
-use Rattle.store.specs.declared.Formed.TheVariants.{Row, Full}
 use Rattle.combine.specs.Callers.{Calm, EntryOf}
 use Rattle.combine.specs.Results.{is_end_at, result_at, results, exceeds_at, exceeds}
 use Rattle.combine.specs.ResultLaws.{end-at, branch-at, result-end, result-branch, results-none, results-more, length-results, exceeds-more}
 use Rattle.combine.specs.Forming.{entry_at, ChildRows, FormableAt, Forming, Formable, last_of}
+use Rattle.std.specs.Prelude.{None, Option, Some}
 
 entry-end : (op : Operation) (ws s : List ℕ) (k : ℕ) → is_end_at ws k ≡ true → entry_at op ws s k ≡ leaf (operate op (first_at ws k) (second_at ws k))
 unfolding entry_at
@@ -49,7 +48,7 @@ module _ {op : Operation} {ws : List ℕ} {n k count : ℕ} (f : FormableAt op w
   pub leaf-calm : l ≡ leaf_mark → Calm op x y
   leaf-calm e = rw (ex, ey) (f.ends (end-at ws k (sym el ∙ e)))
 
-  pub leaf-out : (s : List ℕ) {v : ℕ} {r : Formed} {s' h' l' : List ℕ} → l ≡ leaf_mark → v ≡ operate op x y
+  pub leaf-out : (s : List ℕ) {v : ℕ} {r : Option (ℕ × ℕ)} {s' h' l' : List ℕ} → l ≡ leaf_mark → v ≡ operate op x y
       → Formation (leaf v) (add (leaf v) (diagrams_of s count)) r s' h' l'
       → Formation (entry_at op ws s k) (add (entry_at op ws s k) (diagrams_of s count)) r s' h' l'
   leaf-out s {v} {r} {s'} {h'} {l'} e ev p =
@@ -74,7 +73,7 @@ module _ {op : Operation} {ws : List ℕ} {n k count : ℕ} (f : FormableAt op w
         low-there = rw (ew, ey) kids.low;
       }
 
-      pub branch-out : (s : List ℕ) {r : Formed} {s' h' l' : List ℕ}
+      pub branch-out : (s : List ℕ) {r : Option (ℕ × ℕ)} {s' h' l' : List ℕ}
           → Formation (node l (tree s h) (tree s w)) (add (node l (tree s h) (tree s w)) (diagrams_of s count)) r s' h' l'
           → Formation (entry_at op ws s k) (add (entry_at op ws s k) (diagrams_of s count)) r s' h' l'
       branch-out s {r} {s'} {h'} {l'} p =
@@ -103,7 +102,7 @@ calm-entry op ws (suc n) k h e d = go (cmp k n) (calm-entry op ws n k)
     go (above q) ih = absurd (omega arith)
 
 -- form: the rows that were there stay
-module _ (d : Diagram) (s : List ℕ) (rows : ℕ) {row then : ℕ} {s' h' l' : List ℕ} (p : Formation d (add d (diagrams_of s rows)) (Row row then) s' h' l') where
+module _ (d : Diagram) (s : List ℕ) (rows : ℕ) {row then : ℕ} {s' h' l' : List ℕ} (p : Formation d (add d (diagrams_of s rows)) (Some (row, then)) s' h' l') where
   R : List Diagram
   R = add d (diagrams_of s rows)
 
@@ -207,7 +206,7 @@ module _ {op : Operation} {ws₀ : List ℕ} {rs : List Diagram} {n : ℕ} (able
       ap₂ add entry-is now.diagrams ∙ sym (add-all-snoc rs (results (operate op) ws₀ k) (result_at (operate op) ws₀ (results (operate op) ws₀ k) k))
       ∙ ap (add_all rs) (sym (results-more (operate op) ws₀ k))
 
-  module _ {row then : ℕ} {s' h' l' : List ℕ} (p : Formation (entry_at op ws s k) (add (entry_at op ws s k) (diagrams_of s rows)) (Row row then) s' h' l') (room : n * 5 ≤ length ws) where
+  module _ {row then : ℕ} {s' h' l' : List ℕ} (p : Formation (entry_at op ws s k) (add (entry_at op ws s k) (diagrams_of s rows)) (Some (row, then)) s' h' l') (room : n * 5 ≤ length ws) where
     forming-suc : Forming op ws₀ rs (set ws (k * 5 + 4) row) (suc k) s' h' l' then
     forming-suc = record {
       holds = p.holds;
@@ -271,19 +270,19 @@ added-begin op ws rs k n h = add-all-more rs (results op ws k) (results op ws n)
 take-begin : (m : ℕ) (xs ys : List Diagram) → Prefix xs ys → m ≤ length xs → take m ys ≡ take m xs
 take-begin m xs ys b h = rw b.is (take-append-le m xs b.more h)
 
-full_is : (d : Diagram) (rs : List Diagram) → space_rows < length rs → Full ≡ form_answer d rs
+full_is : (d : Diagram) (rs : List Diagram) → space_rows < length rs → None ≡ form_answer d rs
 unfolding form_answer
 full_is d rs h = rw (lt-leb (length rs) space_rows h)
 
-row_is : (d : Diagram) (rs : List Diagram) (i : ℕ) → length rs ≤ space_rows → index d rs ≡ i → Row i (length rs) ≡ form_answer d rs
+row_is : (d : Diagram) (rs : List Diagram) (i : ℕ) → length rs ≤ space_rows → index d rs ≡ i → Some (i, (length rs)) ≡ form_answer d rs
 unfolding form_answer
 row_is d rs i h e = rw (le-leb (length rs) space_rows h, e)
 
 -- form: no room
 pub form-full : {op : Operation} {ws₀ : List ℕ} {rs : List Diagram} {n : ℕ} → Formable op ws₀ n → {ws : List ℕ} {k : ℕ} {s heads links : List ℕ} {rows : ℕ}
     → Forming op ws₀ rs ws k s heads links rows → k < n → {s' h' l' : List ℕ}
-    → Formation (entry_at op ws s k) (add (entry_at op ws s k) (diagrams_of s rows)) Full s' h' l'
-    → Formation (last_of (results (operate op) ws₀ n)) (add_all rs (results (operate op) ws₀ n)) Full s' h' l'
+    → Formation (entry_at op ws s k) (add (entry_at op ws s k) (diagrams_of s rows)) None s' h' l'
+    → Formation (last_of (results (operate op) ws₀ n)) (add_all rs (results (operate op) ws₀ n)) None s' h' l'
 form-full {op} {ws₀} {rs} {n} able {ws} {k} {s} {heads} {links} {rows} now less p =
     let e = rows_then able now less in
     let over : space_rows < length (add_all rs (results (operate op) ws₀ (suc k))) = subst (λ (ds : List Diagram). space_rows < length ds) e (formation-full p) in
@@ -297,7 +296,7 @@ form-full {op} {ws₀} {rs} {n} able {ws} {k} {s} {heads} {links} {rows} now les
 -- form: the end
 pub form-row : {op : Operation} {ws₀ : List ℕ} {rs : List Diagram} {n : ℕ} → Formable op ws₀ n → {ws : List ℕ} {k : ℕ} {s heads links : List ℕ} {rows last : ℕ}
     → Forming op ws₀ rs ws k s heads links rows → (0 < k → last ≡ second_at ws (k - 1)) → k ≤ n → n ≤ k
-    → Formation (last_of (results (operate op) ws₀ n)) (add_all rs (results (operate op) ws₀ n)) (Row last rows) s heads links
+    → Formation (last_of (results (operate op) ws₀ n)) (add_all rs (results (operate op) ws₀ n)) (Some (last, rows)) s heads links
 unfolding last_of
 form-row {op} {ws₀} {rs} {n} able {ws} {k} {s} {heads} {links} {rows} {last} now at h l =
     let e : k ≡ n = omega arith in
@@ -314,7 +313,7 @@ form-row {op} {ws₀} {rs} {n} able {ws} {k} {s} {heads} {links} {rows} {last} n
     kept-index-is (diagrams_of s rows) last _ now.holds.written.kept (omega arith) (diagram-at s rows last there ∙ is_last) in
     let size : length (add_all rs (results (operate op) ws₀ n)) ≡ rows = sym (ap length ds) ∙ len in
     record {
-      answer = ap (Row last) (sym size) ∙ row_is _ _ last (omega arith) (ap (index _) (sym ds) ∙ place);
+      answer = ap (λ u. Some (last, u)) (sym size) ∙ row_is _ _ last (omega arith) (ap (index _) (sym ds) ∙ place);
       diagrams = ds ∙ sym (take_all space_rows (add_all rs (results (operate op) ws₀ n)) (omega arith));
       holds = now.holds;
     }
@@ -355,18 +354,18 @@ module _ {op : Operation} {ws₀ s₀ h₀ l₀ : List ℕ} {count n : ℕ} {ws 
   pub loop-space : Holds s h l rows
   loop-space = inv.forming.holds
 
-  pub loop-end : n ≤ k → Formation (last_of (results (operate op) ws₀ n)) (add_all (diagrams_of s₀ count) (results (operate op) ws₀ n)) (Row last rows) s h l
+  pub loop-end : n ≤ k → Formation (last_of (results (operate op) ws₀ n)) (add_all (diagrams_of s₀ count) (results (operate op) ws₀ n)) (Some (last, rows)) s h l
   loop-end e = form-row able inv.forming inv.last-is inv.most e
 
-  module _ (less : k < n) {r : Formed} {s' h' l' : List ℕ} (p : Formation (entry_at op ws s k) (add (entry_at op ws s k) (diagrams_of s rows)) r s' h' l') where
-    pub loop-full : r ≡ Full → Formation (last_of (results (operate op) ws₀ n)) (add_all (diagrams_of s₀ count) (results (operate op) ws₀ n)) Full s' h' l'
-    loop-full e = form-full able inv.forming less (subst (λ (x : Formed). Formation (entry_at op ws s k) (add (entry_at op ws s k) (diagrams_of s rows)) x s' h' l') e p)
+  module _ (less : k < n) {r : Option (ℕ × ℕ)} {s' h' l' : List ℕ} (p : Formation (entry_at op ws s k) (add (entry_at op ws s k) (diagrams_of s rows)) r s' h' l') where
+    pub loop-full : r ≡ None → Formation (last_of (results (operate op) ws₀ n)) (add_all (diagrams_of s₀ count) (results (operate op) ws₀ n)) None s' h' l'
+    loop-full e = form-full able inv.forming less (subst (λ (x : Option (ℕ × ℕ)). Formation (entry_at op ws s k) (add (entry_at op ws s k) (diagrams_of s rows)) x s' h' l') e p)
 
-    pub loop-step : {row then : ℕ} → r ≡ Row row then → length s' ≡ length s → length h' ≡ length h → length l' ≡ length l
+    pub loop-step : {row then : ℕ} → r ≡ Some (row, then) → length s' ≡ length s → length h' ≡ length h → length l' ≡ length l
         → FormLoop op ws₀ s₀ h₀ l₀ count n (set ws (k * 5 + 4) row) s' h' l' then row (k + 1)
     loop-step {row} {then} e ks kh kl =
-        let q : Formation (entry_at op ws s k) (add (entry_at op ws s k) (diagrams_of s rows)) (Row row then) s' h' l' =
-        subst (λ (x : Formed). Formation (entry_at op ws s k) (add (entry_at op ws s k) (diagrams_of s rows)) x s' h' l') e p in
+        let q : Formation (entry_at op ws s k) (add (entry_at op ws s k) (diagrams_of s rows)) (Some (row, then)) s' h' l' =
+        subst (λ (x : Option (ℕ × ℕ)). Formation (entry_at op ws s k) (add (entry_at op ws s k) (diagrams_of s rows)) x s' h' l') e p in
         record {
           most = omega arith;
           plan-length = length-set ws (k * 5 + 4) row ∙ inv.plan-length;

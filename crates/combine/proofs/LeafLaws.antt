@@ -6,8 +6,8 @@ use Prim.Native.Nat.{ℕ, zero, suc, ◌+◌, ◌*◌, ◌/◌, ◌≤◌, ◌<�
 use native.Mathlib.Omega.{arith}
 use native.Mathlib.Nat.{mul-le-mul, mul-le-mul_left, mul-div-le, lt-mul-div-succ, le_trans, lt_of_lt_of_le}
 use native.Mathlib.Numerals.{add-one}
-use lib.Dec.{ltb}
-use borrow.Author.Tests.{ltb-false, lt-ltb, le-ltb}
+use lib.Dec.{eqb, ltb}
+use borrow.Author.Tests.{ltb-false, lt-ltb, le-ltb, ne_eqb}
 use Rattle.basics.specs.Tests.{Cmp, below, equal, above, cmp, or-one, or-other}
 use Rattle.label.specs.Limits.{leaf_mark}
 use Rattle.diagram.specs.Sizes.{highest_value}
@@ -70,9 +70,9 @@ product-fits {op} {v} {w} c e = ltb-false highest_value (v * w) (ap (λ (o : Ope
 pub values-at : {ws : List ℕ} {n k : ℕ} → SoundAt ws n k → pair_label_at ws k ≡ leaf_mark → Values (first_at ws k) (second_at ws k)
 values-at {ws} {n} {k} s e = let v = s.sound.values k s.less (end-at ws k e) in record { first = v.0; second = v.1 }
 
-pub exceeds-branch : (op : ℕ → ℕ → ℕ) (ws : List ℕ) (k : ℕ) → (pair_label_at ws k ≡ leaf_mark → ⊥) → false ≡ exceeds_at op ws k
+pub exceeds-branch : (op : ℕ → ℕ → ℕ) (ws : List ℕ) (k : ℕ) → (pair_label_at ws k ≡ leaf_mark → ⊥) → eqb (pair_label_at ws k) leaf_mark ≡ exceeds_at op ws k
 unfolding exceeds_at
-exceeds-branch op ws k n = rw (branch-at ws k n)
+exceeds-branch op ws k n = rw (branch-at ws k n) (ne_eqb (pair_label_at ws k) leaf_mark n)
 
 pub exceeds-end : (op : ℕ → ℕ → ℕ) (ws : List ℕ) (k : ℕ) {b : Bool} → pair_label_at ws k ≡ leaf_mark → b ≡ ltb highest_value (op (first_at ws k) (second_at ws k)) → b ≡ exceeds_at op ws k
 unfolding exceeds_at

@@ -9,13 +9,12 @@ use Rattle.apply.specs.Combination.{operate}
 use Rattle.apply.specs.Apply.{apply}
 use Rattle.apply.specs.Pairs.{pairs, pair_count, overflows}
 use Rattle.plan.specs.Plan.{Clean}
-use Rattle.store.specs.declared.Formed.{Formed}
-use Rattle.store.specs.declared.Formed.TheVariants.{Row, Full}
 use Rattle.store.specs.Space.{diagrams_of, Holds, Formation, add_all}
 use Rattle.combine.specs.Results.{results}
 use Rattle.combine.specs.Forming.{last_of}
 use Rattle.combine.specs.declared.Joined.{Joined}
 use Rattle.combine.specs.declared.Joined.TheVariants.{At, TooManyPairs, TooHighValue, NoRoom}
+use Rattle.std.specs.Prelude.{None, Option, Some}
 
 -- the rows after a combination of a and b in a space that holds rs
 abbrev pub rows_after : Operation → Diagram → Diagram → List Diagram → List Diagram
@@ -49,11 +48,11 @@ pub record Joint (op : Operation) (limit : ℕ) (a b : Diagram) (s₀ : List ℕ
   pub diagrams : diagrams_of s (count_after count r) ≡ diagrams_after op a b (diagrams_of s₀ count) r
 
 -- what forming the rows of a plan of n pairs ensures
-abbrev pub joined_as : ℕ → Formed → Joined
-joined_as n (Row i m) = At i m n
-joined_as n Full = NoRoom
+abbrev pub joined_as : ℕ → Option (ℕ × ℕ) → Joined
+joined_as n (Some (i, m)) = At i m n
+joined_as n None = NoRoom
 
 pub record FormedAll (op : Operation) (ws : List ℕ) (n : ℕ) (s₀ : List ℕ) (count : ℕ) (r : Joined) (s heads links : List ℕ) : Type 0 where
-  pub made : Formed
+  pub made : Option (ℕ × ℕ)
   pub answer : r ≡ joined_as n made
   pub formation : Formation (last_of (results (operate op) ws n)) (add_all (diagrams_of s₀ count) (results (operate op) ws n)) made s heads links

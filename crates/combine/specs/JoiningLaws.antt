@@ -6,7 +6,7 @@ use Rattle.std.proofs.Math.ListN.{get_or}
 use borrow.Author.Tests.{lt-ltb, le-ltb, ltb-true, ltb-false}
 use Rattle.basics.specs.Tests.{Flag, is_true, is_false, flag}
 use Rattle.diagram.specs.Sizes.{space_rows}
-use Rattle.diagram.specs.Diagram.{Diagram, leaf, branch}
+use Rattle.diagram.specs.Diagram.{Diagram, leaf}
 use Rattle.diagram.specs.Listing.{index}
 use Rattle.diagram.specs.Inner.{Kept}
 use Rattle.diagram.specs.RowLaws.{kept-children}
@@ -15,8 +15,6 @@ use Rattle.apply.specs.Combination.{operate}
 use Rattle.apply.specs.Apply.{apply}
 use Rattle.apply.specs.Pairs.{pairs, pair_count, overflows}
 use Rattle.apply.specs.Inner.{ClosedRows}
-use Rattle.store.specs.declared.Formed.{Formed}
-use Rattle.store.specs.declared.Formed.TheVariants.{Row, Full}
 use Rattle.store.specs.Space.{diagrams_of, Holds, Formation, add_all}
 use Rattle.store.proofs.SpaceLaws.{formation-row, formation-full}
 use Rattle.combine.specs.Results.{results}
@@ -28,6 +26,7 @@ use Rattle.combine.specs.declared.Paired.{Paired}
 use Rattle.combine.specs.declared.Paired.TheVariants.{Pairs, TooMany, TooHigh}
 use Rattle.combine.specs.declared.Joined.{Joined}
 use Rattle.combine.specs.declared.Joined.TheVariants.{At, TooManyPairs, TooHighValue, NoRoom}
+use Rattle.std.specs.Prelude.{None, Option, Some}
 
 -- the rows of a space hold with each branch its children
 pub kept-closed : (rs : List Diagram) → Kept rs → ClosedRows rs
@@ -112,9 +111,9 @@ module _ {op : Operation} {limit : ℕ} {a b : Diagram} {p : Paired} {ws hs : Li
     pub joint-formed : {r : Joined} {s' h' l' : List ℕ} → FormedAll op ws n s count r s' h' l' → Joint op limit a b s count r s' h' l' hs
     joint-formed {r} {s'} {h'} {l'} f = go f.made f.answer f.formation
       where
-        go : (x : Formed) → r ≡ joined_as n x → Formation (last_of (results (operate op) ws n)) (add_all (diagrams_of s count) (results (operate op) ws n)) x s' h' l'
+        go : (x : Option (ℕ × ℕ)) → r ≡ joined_as n x → Formation (last_of (results (operate op) ws n)) (add_all (diagrams_of s count) (results (operate op) ws n)) x s' h' l'
             → Joint op limit a b s count r s' h' l' hs
-        go (Row i m) z g =
+        go (Some (i, m)) z g =
             let k = formation-row g in
             let len : length (rows_after op a b (diagrams_of s count)) ≡ m = sym (ap length rows_are) ∙ sym k.2 in
             let place : i ≡ index (apply (operate op) a b) (rows_after op a b (diagrams_of s count)) = k.1 ∙ (λ j. index (last-is j) (rows_are j)) in
@@ -125,7 +124,7 @@ module _ {op : Operation} {limit : ℕ} {a b : Diagram} {p : Paired} {ws hs : Li
               holds = g.holds;
               diagrams = k.3 ∙ rows_are;
             })
-        go Full z g =
+        go None z g =
             rw z (record {
               answer = answer-full op limit a b (diagrams_of s count) q.0 q.1 (subst (λ (ds : List Diagram). space_rows < length ds) rows_are (formation-full g));
               clean = up.clean;
@@ -134,10 +133,10 @@ module _ {op : Operation} {limit : ℕ} {a b : Diagram} {p : Paired} {ws hs : Li
             })
 
 -- the ways out of `formed`
-module _ {op : Operation} {ws s : List ℕ} {n count : ℕ} {x : Formed} {s' h' l' : List ℕ}
+module _ {op : Operation} {ws s : List ℕ} {n count : ℕ} {x : Option (ℕ × ℕ)} {s' h' l' : List ℕ}
     (f : Formation (last_of (results (operate op) ws n)) (add_all (diagrams_of s count) (results (operate op) ws n)) x s' h' l') where
-  pub all-full : x ≡ Full → FormedAll op ws n s count NoRoom s' h' l'
+  pub all-full : x ≡ None → FormedAll op ws n s count NoRoom s' h' l'
   all-full e = record { made = x; answer = ap (joined_as n) (sym e); formation = f }
 
-  pub all-rows : {i m : ℕ} → x ≡ Row i m → FormedAll op ws n s count (At i m n) s' h' l'
+  pub all-rows : {i m : ℕ} → x ≡ Some (i, m) → FormedAll op ws n s count (At i m n) s' h' l'
   all-rows e = record { made = x; answer = ap (joined_as n) (sym e); formation = f }

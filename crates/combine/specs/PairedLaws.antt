@@ -1,5 +1,5 @@
 -- A walk's plan forms the combination of the two diagrams.
-use Rattle.std.specs.Prelude.{◌≡◌, refl, Bool, true, false, ℕ, zero, suc, ◌+◌, ◌-◌, ◌≤◌, ◌<◌, leb}
+use Rattle.std.specs.Prelude.{◌≡◌, refl, Bool, true, false, ℕ, suc, ◌+◌, ◌-◌, ◌≤◌, ◌<◌, leb}
 use Rattle.std.proofs.Math.Path.{ap, sym}
 use Rattle.std.proofs.Common.{◌∙◌, subst, length-append, take_all, lt-ltb, le-ltb, leb-true, leb-false}
 use mathlib.Core.List.{List, [], ◌∷◌, ◌++◌, map}
@@ -22,14 +22,13 @@ use Rattle.plan.specs.Walk as rows
 use Rattle.plan.specs.WalkLaws.{finish-end, finish-branch}
 use Rattle.plan.specs.Plan.{Plan, Clean, Touched, went_to, Planned, origin}
 use Rattle.plan.specs.PlanLaws.{plan-touched}
-use Rattle.plan.specs.declared.Went.{Went}
-use Rattle.plan.specs.declared.Went.TheVariants.{To, Full}
 use Rattle.combine.specs.RowPairs.{Operand, AllInside, pair_tree, agrees}
 use Rattle.combine.specs.Results.{results, exceeds, Sound}
 use Rattle.store.specs.Space.{add_all}
 use Rattle.combine.specs.ResultLaws.{pair_result, results-are, added-formed, exceeds-are, plan-sound, get_d_map}
 use Rattle.combine.specs.Paired.{Pairable, pair_answer, Forms, PairedUp}
 use Rattle.combine.specs.declared.Paired.TheVariants.{Pairs, TooMany, TooHigh}
+use Rattle.std.specs.Prelude.{None, Option, Some}
 
 -- the root comes last
 root-last : (op : Operation) (x y : List ℕ) (p : rows.Pair) → (get_or (walked op x y p []) (length (walked op x y p []) - 1) origin ≡ p) × (0 < length (walked op x y p []))
@@ -111,49 +110,52 @@ module _ (op : Operation) (limit : ℕ) (a b : Diagram) where
   unfolding pair_answer
   answer-pairs h e = rw (le-ltb limit (pair_count op a b) h, e)
 
-went_to_lem : (limit : ℕ) (qs : List rows.Pair) (n m : ℕ) → To n m ≡ went_to limit qs → (length qs ≤ limit) × (m ≡ length qs)
+went_to_lem : (limit : ℕ) (qs : List rows.Pair) (n m : ℕ) → Some (n, m) ≡ went_to limit qs → (length qs ≤ limit) × (m ≡ length qs)
 unfolding went_to
 went_to_lem limit qs n m e = go (flag (leb (length qs) limit))
   where
     go : Flag (leb (length qs) limit) → (length qs ≤ limit) × (m ≡ length qs)
-    go (is_true q) = let k : To n m ≡ To (length qs - 1) (length qs) = rw q at e in (leb-true _ _ q, (cc))
-    go (is_false q) = let k : To n m ≡ Full = rw q at e in absurd (let z : ◌≡◌ {A = ℕ} 0 1 = cc in omega arith)
+    go (is_true q) =
+        let k : ◌≡◌ {A = Option (ℕ × ℕ)} (Some (n, m)) (Some (length qs - 1, length qs)) = rw q at e in
+        let p : ◌≡◌ {A = ℕ × ℕ} (n, m) (length qs - 1, length qs) = cc in
+        (leb-true _ _ q, ap (λ (p : ℕ × ℕ). p.1) p)
+    go (is_false q) = let k : ◌≡◌ {A = Option (ℕ × ℕ)} (Some (n, m)) None = rw q at e in absurd (let z : ◌≡◌ {A = ℕ} 0 1 = cc in omega arith)
 
-went-full : (limit : ℕ) (qs : List rows.Pair) → Full ≡ went_to limit qs → limit < length qs
+went-full : (limit : ℕ) (qs : List rows.Pair) → None ≡ went_to limit qs → limit < length qs
 unfolding went_to
 went-full limit qs e = go (flag (leb (length qs) limit))
   where
     go : Flag (leb (length qs) limit) → limit < length qs
-    go (is_true q) = let k : Full ≡ To (length qs - 1) (length qs) = rw q at e in absurd (let z : ◌≡◌ {A = ℕ} 0 1 = cc in omega arith)
+    go (is_true q) = let k : ◌≡◌ {A = Option (ℕ × ℕ)} None (Some (length qs - 1, length qs)) = rw q at e in absurd (let z : ◌≡◌ {A = ℕ} 0 1 = cc in omega arith)
     go (is_false q) = leb-false _ _ q
 
 -- the ways out of `pair_up`, in the words of what `walk`, `clear` and `overflow` ensure
-module _ {x y plan heads : List ℕ} {limit i j : ℕ} (able : Pairable x y plan heads limit i j) {op : Operation} {r : Went} {ws hs : List ℕ}
+module _ {x y plan heads : List ℕ} {limit i j : ℕ} (able : Pairable x y plan heads limit i j) {op : Operation} {r : Option (ℕ × ℕ)} {ws hs : List ℕ}
     (went : Planned op x y limit (walked op x y (i, j) []) r ws hs) where
   count-is : length (walked op x y (i, j) []) ≡ pair_count op (tree x i) (tree y j)
   count-is = pairs-count op x y i j able.first able.second
 
-  pub full-touched : r ≡ Full → Touched ws hs limit
+  pub full-touched : r ≡ None → Touched ws hs limit
   full-touched e = went.touched (went-full limit _ (sym e ∙ went.answer))
 
-  pub to-touched : (n m : ℕ) → r ≡ To n m → Touched ws hs m
+  pub to-touched : (n m : ℕ) → r ≡ Some (n, m) → Touched ws hs m
   to-touched n m e =
       let q = went_to_lem limit _ n m (sym e ∙ went.answer) in
       rw q.1 (plan-touched (went.plan q.0))
 
-  pub to-sound : (n m : ℕ) → r ≡ To n m → Sound ws m
+  pub to-sound : (n m : ℕ) → r ≡ Some (n, m) → Sound ws m
   to-sound n m e =
       let q = went_to_lem limit _ n m (sym e ∙ went.answer) in
       rw q.1 (plan-entries op x y i j able.first able.second ws hs limit (went.plan q.0))
 
-  pub out-many : {hs' : List ℕ} → r ≡ Full → Clean hs' → PairedUp op limit (tree x i) (tree y j) TooMany ws hs'
+  pub out-many : {hs' : List ℕ} → r ≡ None → Clean hs' → PairedUp op limit (tree x i) (tree y j) TooMany ws hs'
   out-many e c = record {
     answer = answer-many op limit _ _ (omega (arith, count-is, went-full limit _ (sym e ∙ went.answer)));
     clean = c;
     forms = λ n z. absurd (let q : ◌≡◌ {A = ℕ} 0 1 = cc in omega arith);
   }
 
-  module _ (n m : ℕ) (e : r ≡ To n m) {hs' : List ℕ} (c : Clean hs') {over : Bool} (o : over ≡ exceeds (operate op) ws m) where
+  module _ (n m : ℕ) (e : r ≡ Some (n, m)) {hs' : List ℕ} (c : Clean hs') {over : Bool} (o : over ≡ exceeds (operate op) ws m) where
     few : length (walked op x y (i, j) []) ≤ limit
     few = (went_to_lem limit _ n m (sym e ∙ went.answer)).0
 

@@ -2,7 +2,7 @@
 use Rattle.std.specs.Prelude.{◌≡◌, Bool, true, false, ◌&&◌, ◌||◌, cond, List, [], ◌∷◌, ◌++◌, ℕ, zero, suc, ◌*◌, ◌≤◌, ◌<◌, length, get_or, eqb, ltb}
 use Rattle.label.specs.Limits.{leaf_mark}
 use Rattle.diagram.specs.Sizes.{highest_value}
-use Rattle.diagram.specs.Diagram.{Diagram, leaf, branch}
+use Rattle.diagram.specs.Diagram.{Diagram, leaf}
 use Rattle.apply.specs.Apply.{node}
 use Rattle.plan.specs.Plan.{pair_label_at, first_at, second_at}
 

@@ -1,7 +1,7 @@
 // Combination of two diagrams in a working space: their pairs walked, the plan's ends checked, its rows formed.
 #![tactic(auto)]
 
-ghost use Rattle.std.specs.Prelude.{◌≡◌, ℕ, ◌+◌, ◌*◌, ◌<◌, ◌≤◌, max, length, ltb};
+ghost use Rattle.std.specs.Prelude.{◌≡◌, ℕ, ◌+◌, ◌*◌, ◌<◌, ◌≤◌, length, ltb};
 ghost use Rattle.diagram.specs.Sizes.{highest_value};
 ghost use Rattle.apply.specs.Combination.{operate};
 ghost use Rattle.combine.specs.Results.{exceeds_at, exceeds, results, Sound, SoundAt};
@@ -15,8 +15,7 @@ ghost use Rattle.combine.specs.Callers.{Values, Calm, EntryOf};
 ghost use Rattle.combine.specs.Forming.{entry_at, FormableAt, Formable, last_of};
 
 use apply::Operation;
-use plan::Went;
-use store::Formed;
+use label::Label;
 
 // Pairs that a call first makes room for, which suffices for most: clearing room for all costs more than the walk of few. The words of a plan of so many pairs,
 // and of one with room for all.
@@ -34,15 +33,10 @@ fn product_too_high(v: u64, w: u64) -> bool
     requires { Values v w }
     ensures { result ≡ ltb highest_value (v * w) }
 {
-    if v <= SMALL {
-        if w <= SMALL {
-            return false;
-        }
-    }
-    if v == 0 {
+    if v <= SMALL && w <= SMALL {
         return false;
     }
-    w > diagram::VALUE / v
+    v != 0 && w > diagram::VALUE / v
 }
 
 // Whether the result of two leaves is above 10^18.
@@ -65,17 +59,8 @@ fn result(op: Operation, v: u64, w: u64) -> u64
     match op {
         Operation::Sum => v + w,
         Operation::Product => v * w,
-        Operation::Max => greater(v, w),
+        Operation::Max => v.max(w),
     }
-}
-
-fn greater(v: u64, w: u64) -> u64
-    ensures { result ≡ max v w }
-{
-    if v < w {
-        return w;
-    }
-    v
 }
 
 // Whether entry k of the plan is an end whose result is above 10^18.
@@ -83,10 +68,7 @@ fn too_high_at(plan: &[u64], n: usize, k: usize, op: Operation) -> bool
     requires { SoundAt plan.now n k }
     ensures { result ≡ exceeds_at (operate op) plan.now k }
 {
-    if plan[k * 5 + 2] != label::Label::LEAF {
-        return false;
-    }
-    too_high(op, plan[k * 5 + 3], plan[k * 5 + 4])
+    plan[k * 5 + 2] == Label::LEAF && too_high(op, plan[k * 5 + 3], plan[k * 5 + 4])
 }
 
 // Whether an end among the first n pairs of the plan has a result above 10^18.
@@ -94,12 +76,10 @@ fn overflow(plan: &[u64], n: usize, op: Operation) -> bool
     requires { Sound plan.now n }
     ensures { result ≡ exceeds (operate op) plan.now n }
 {
-    let mut k = 0;
-    while k < n {
+    for k in 0..n {
         if too_high_at(plan, n, k, op) {
             return true;
         }
-        k += 1;
     }
     false
 }
@@ -136,7 +116,7 @@ fn form_at(
     heads: &mut [u16],
     links: &mut [u16],
     count: usize,
-) -> Formed
+) -> Option<(usize, usize)>
     requires formable_at { FormableAt op plan.now n k count }
     requires holds { Holds space.old heads.old links.old count }
     ensures { Formation (entry_at op plan.now space.old k) (add (entry_at op plan.now space.old k) (diagrams_of space.old count)) result space.new heads.new links.new }
@@ -144,9 +124,8 @@ fn form_at(
     let label = label_at(plan, n, k);
     let first = first_at(plan, n, k);
     let second = second_at(plan, n, k);
-    if label == label::Label::LEAF {
-        let value = result(op, first, second);
-        return store::leaf(space, heads, links, count, value);
+    if label == Label::LEAF {
+        return store::leaf(space, heads, links, count, result(op, first, second));
     }
     let high = second_at(plan, n, first as usize) as usize;
     let low = second_at(plan, n, second as usize) as usize;
@@ -162,24 +141,19 @@ fn form(
     heads: &mut [u16],
     links: &mut [u16],
     count: usize,
-) -> Formed
+) -> Option<(usize, usize)>
     requires formable { Formable op plan.old n }
     requires holds { Holds space.old heads.old links.old count }
     ensures { Formation (last_of (results (operate op) plan.old n)) (add_all (diagrams_of space.old count) (results (operate op) plan.old n)) result space.new heads.new links.new }
 {
     let mut rows = count;
-    let mut last = 0usize;
-    let mut k = 0usize;
-    while k < n {
-        let Formed::Row(row, then) = form_at(plan, n, k, op, space, heads, links, rows) else {
-            return Formed::Full;
-        };
+    let mut last = 0;
+    for k in 0..n {
+        let (row, then) = form_at(plan, n, k, op, space, heads, links, rows)?;
         plan[k * 5 + 4] = row as u64;
-        last = row;
-        rows = then;
-        k += 1;
+        (last, rows) = (row, then);
     }
-    Formed::Row(last, rows)
+    Some((last, rows))
 }
 
 // What pairing up answers: the pairs of the plan, that they are too many, or that a pair of leaves has a result above 10^18.
@@ -204,15 +178,16 @@ fn pair_up(
     requires { Pairable x.now y.now plan.old index.old limit i j }
     ensures { PairedUp op limit (tree x.now i) (tree y.now j) result plan.new index.new }
 {
-    let Went::To(_, n) = plan::walk(x, y, plan, index, limit, i, j, op) else {
+    let Some((_, n)) = plan::walk(x, y, plan, index, limit, i, j, op) else {
         plan::clear(plan, index, limit);
         return Paired::TooMany;
     };
     plan::clear(plan, index, n);
     if overflow(plan, n, op) {
-        return Paired::TooHigh;
+        Paired::TooHigh
+    } else {
+        Paired::Pairs(n)
     }
-    Paired::Pairs(n)
 }
 
 // What one combination in a working space answers: the result's row, the rows in the space then and the pairs; or why there is none.
@@ -243,8 +218,7 @@ pub fn join_listings(
     requires holds { Holds space.old heads.old links.old count }
     ensures { Joint op limit (tree x.now i) (tree y.now j) space.old count result space.new heads.new links.new index.new }
 {
-    let p = pair_up(x, y, plan, index, limit, i, j, op);
-    match p {
+    match pair_up(x, y, plan, index, limit, i, j, op) {
         Paired::Pairs(n) => formed(plan, n, op, space, heads, links, count),
         Paired::TooMany => Joined::TooManyPairs,
         Paired::TooHigh => Joined::TooHighValue,
@@ -268,8 +242,7 @@ pub fn join_rows(
     requires holds { Holds space.old heads.old links.old count }
     ensures { Joint op limit (tree space.old i) (tree space.old j) space.old count result space.new heads.new links.new index.new }
 {
-    let p = pair_up(space, space, plan, index, limit, i, j, op);
-    match p {
+    match pair_up(space, space, plan, index, limit, i, j, op) {
         Paired::Pairs(n) => formed(plan, n, op, space, heads, links, count),
         Paired::TooMany => Joined::TooManyPairs,
         Paired::TooHigh => Joined::TooHighValue,
@@ -290,8 +263,8 @@ fn formed(
     requires holds { Holds space.old heads.old links.old count }
     ensures { FormedAll op plan.old n space.old count result space.new heads.new links.new }
 {
-    let Formed::Row(row, rows) = form(plan, n, op, space, heads, links, count) else {
-        return Joined::NoRoom;
-    };
-    Joined::At(row, rows, n)
+    match form(plan, n, op, space, heads, links, count) {
+        Some((row, rows)) => Joined::At(row, rows, n),
+        None => Joined::NoRoom,
+    }
 }

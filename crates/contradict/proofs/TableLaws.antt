@@ -22,7 +22,7 @@ use Rattle.contradiction.proofs.JoinLaws.{literal-names, literal-stays, represen
 use Rattle.contradiction.proofs.AgreeLaws.{join-agree}
 use Rattle.contradict.specs.Representing.{Own, Merged, Taken, Represented}
 
--- `exchanged`
+-- one representative in the place of another
 pub exchanged-here : (x y z : ℕ) → x ≡ y → z ≡ cond (eqb x y) z x
 exchanged-here x y z e = rw (eq-eqb x y e)
 

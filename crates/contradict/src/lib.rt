@@ -29,25 +29,13 @@ pub enum Led {
     Many,
 }
 
-// x, but `to` in the place of `from`.
-fn exchanged(x: u64, from: u64, to: u64) -> u64
-    ensures { result ≡ cond (eqb x from) to x }
-{
-    if x == from {
-        return to;
-    }
-    x
-}
-
 // Each term is its own representative.
 fn separate(table: &mut [u64])
     requires { term_end ≤ length table.old }
     ensures { Own table.old table.new term_end }
 {
-    let mut t = 0;
-    while t < TERMS {
+    for t in 0..TERMS {
         table[t] = t as u64;
-        t += 1;
     }
 }
 
@@ -60,10 +48,9 @@ fn join(table: &mut [u64], t: usize, u: usize)
 {
     let from = table[t];
     let to = table[u];
-    let mut x = 0;
-    while x < TERMS {
-        table[x] = exchanged(table[x], from, to);
-        x += 1;
+    for x in 0..TERMS {
+        let t = table[x];
+        table[x] = if t == from { to } else { t };
     }
 }
 
@@ -90,10 +77,8 @@ fn join_all(literals: &[u64], table: &mut [u64])
     ensures { Represented literals.now 0 table.new }
 {
     separate(table);
-    let mut j = literals.len();
-    while j > 0 {
-        join_literal(table, literals[j - 1]);
-        j -= 1;
+    for j in (0..literals.len()).rev() {
+        join_literal(table, literals[j]);
     }
 }
 
@@ -116,12 +101,10 @@ fn is_affirmed(arities: &[u64], literals: &[u64], table: &[u64], k: u64) -> bool
     requires { Readable arities.now literals.now table.now }
     ensures { result ≡ some_literal (affirms arities.now (map_of table.now) k) (literals_in literals.now) }
 {
-    let mut j = 0;
-    while j < literals.len() {
-        if affirms(arities, table, literals[j], k) {
+    for x in literals {
+        if affirms(arities, table, *x, k) {
             return true;
         }
-        j += 1;
     }
     false
 }
@@ -146,12 +129,10 @@ fn clash(arities: &[u64], literals: &[u64], table: &[u64]) -> bool
     requires { Readable arities.now literals.now table.now }
     ensures { result ≡ clash_under arities.now (map_of table.now) (literals_in literals.now) }
 {
-    let mut j = 0;
-    while j < literals.len() {
-        if clashes(arities, literals, table, literals[j]) {
+    for x in literals {
+        if clashes(arities, literals, table, *x) {
             return true;
         }
-        j += 1;
     }
     false
 }
@@ -181,10 +162,7 @@ fn passes(arities: &[u64], words: &[u64], counts: &[u64], n: usize, k: u64, w: u
     requires { Route arities.now words.now counts.now n k }
     ensures { result ≡ passes arities.now w (path_at (tree words.now (n - 1)) k) }
 {
-    if paths::leaf_of(words, counts, n, k) == w {
-        return true;
-    }
-    is_impossible(arities, words, counts, n, k)
+    paths::leaf_of(words, counts, n, k) == w || is_impossible(arities, words, counts, n, k)
 }
 
 // Whether each of the m paths does.
@@ -192,12 +170,10 @@ fn all_pass(arities: &[u64], words: &[u64], counts: &[u64], n: usize, m: usize, 
     requires { Routed arities.now words.now counts.now n m }
     ensures { result ≡ leads_to arities.now w (tree words.now (n - 1)) }
 {
-    let mut k = 0;
-    while k < m {
+    for k in 0..m {
         if !passes(arities, words, counts, n, k as u64, w) {
             return false;
         }
-        k += 1;
     }
     true
 }

@@ -3,8 +3,9 @@ use mathlib.Core.Path.{◌≡◌, refl, ap, ap₂, sym, ◌∙◌}
 use mathlib.Core.List.{List, [], ◌∷◌, ◌++◌, append_assoc, append-nil}
 use Prim.Native.Nat.{ℕ, zero, suc, ◌+◌, ◌-◌, ◌*◌, ◌/◌, ◌%◌, ◌^◌, ◌≤◌, ◌<◌}
 use native.Mathlib.Omega.{arith}
-use lib.ListN.{length, get_or, take, drop, set, replicate, length-set, length-append, length-drop, length-replicate, take-append-drop}
-use lib.Seq.{take-suc, append_snoc, set_at, length-take-le, take_all, take-append-add, get_or-drop, paste, paste-zero, paste-suc, take-paste}
+use lib.ListN.{length, get_or, take, drop, set, replicate, length-set, length-append, length-replicate, take-append-drop}
+use borrow.Rule.Slice.PartMut.{put_mid}
+use lib.Seq.{drop-drop, take-suc, append_snoc, set_at, length-take-le, take_all, take-append-add, paste, take-paste}
 use Rattle.label.specs.Limits.{most_places}
 use Rattle.label.proofs.ArityLaws.{arity-most}
 use Rattle.state.specs.Lent.{fact_words}
@@ -62,9 +63,9 @@ fill_step {row₀} {row} {n} {k} {t} {rest} i a f =
     }
 
 pub fill_on : {row₀ row : List ℕ} {n k t rest j : ℕ} → Fillable row₀ n k → Filling row₀ n k t row rest j → 0 < j
-    → Filling row₀ n k t (set row j (rest % n)) (rest / n) (j - 1)
+    → Filling row₀ n k t (set row (j - 1 + 1) (rest % n)) (rest / n) (j - 1)
 fill_on {j = zero} a f h = absurd (omega arith)
-fill_on {j = suc i} a f h = let e : suc i - 1 ≡ i = omega arith in rw e (fill_step i a f)
+fill_on {j = suc i} a f h = let e : suc i - 1 ≡ i = omega arith in let m : i + 1 ≡ suc i = omega arith in rw (e, m) (fill_step i a f)
 
 pub fill_end : {row₀ row : List ℕ} {n k t rest j : ℕ} → Filling row₀ n k t row rest j → j ≤ 0 → row ≡ take 1 row₀ ++ digits n k t ++ drop (1 + k) row₀
 unfolding digits
@@ -74,33 +75,12 @@ fill_end {row₀} {row} {n} {k} {t} {rest} {j} f h =
     f.is ∙ ap (λ z. take (1 + z) row₀ ++ f.done ++ drop (1 + k) row₀) e ∙ ap (λ z. take 1 row₀ ++ z ++ drop (1 + k) row₀) l
 
 -- ===== copy_row =====
-pub record Copying (from : List ℕ) (i : ℕ) (to₀ : List ℕ) (at : ℕ) (to : List ℕ) (j : ℕ) : Type 0 where
-  pub size : length to ≡ length to₀
-  pub below : j ≤ fact_words
-  pub words : to ≡ paste to₀ at (drop i from) j
-
-pub copy_start : (from : List ℕ) (i : ℕ) (to : List ℕ) (at : ℕ) → Copying from i to at to 0
-copy_start from i to at = record { size = refl; below = omega arith; words = paste-zero to at (drop i from) }
-
-module _ {from to₀ to : List ℕ} {i at j : ℕ} (c : Copying from i to₀ at to j) (r : at + fact_words ≤ length to₀) (h : j < fact_words) where
-  pub copy-room : at + j < length to
-  copy-room = omega (arith, c.size)
-
-  pub copy-on : i + fact_words ≤ length from → Copying from i to₀ at (set to (at + j) (get_or from (i + j) 0)) (j + 1)
-  copy-on l =
-      let m : suc j ≡ j + 1 = omega arith in
-      let w = length-drop i from in
-      record {
-        size = length-set to (at + j) (get_or from (i + j) 0) ∙ c.size;
-        below = omega arith;
-        words =
-            ap₂ (λ z x. set z (at + j) x) c.words (sym (get_or-drop i from j 0))
-            ∙ paste-suc to₀ at (drop i from) j 0 (omega arith) (omega arith)
-            ∙ ap (paste to₀ at (drop i from)) m;
-      }
-
-pub copy-end : {from to₀ to : List ℕ} {i at j : ℕ} → Copying from i to₀ at to j → fact_words ≤ j → to ≡ paste to₀ at (drop i from) fact_words
-copy-end {from} {to₀} {to} {i} {at} {j} c h = let e : j ≡ fact_words = omega (arith, c.below) in c.words ∙ ap (paste to₀ at (drop i from)) e
+pub copied : (to : List ℕ) (at : ℕ) (from : List ℕ) (i : ℕ) {row : List ℕ} → row ≡ take (i + fact_words - i) (drop i from)
+    → put_mid at (at + fact_words - at) to row ≡ paste to at (drop i from) fact_words
+copied to at from i {row} e =
+    let p : at + fact_words - at ≡ fact_words = omega arith in
+    let q : i + fact_words - i ≡ fact_words = omega arith in
+    rw (p, e, q, drop-drop fact_words at to, append_assoc)
 
 -- ===== write_fact =====
 take-zeros : (j m : ℕ) → take j (replicate (j + m) 0) ≡ replicate {A = ℕ} j 0

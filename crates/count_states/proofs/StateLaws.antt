@@ -17,8 +17,6 @@ use Rattle.diagram.specs.Words.{row_count}
 use Rattle.diagram.specs.Listing.{diagram_of}
 use Rattle.diagram.specs.Variables.{is_plain}
 use Rattle.diagram.specs.ListingValid.{listing-is-valid}
-use Rattle.state.specs.declared.Valued.{Valued}
-use Rattle.state.specs.declared.Valued.TheVariants.{Value, Refused}
 use Rattle.state.specs.Lent.{fact_words, some_below, state_of, is_state}
 use Rattle.state.proofs.LentLaws.{some-made}
 use Rattle.elimination.specs.Answer.{is_too_large}
@@ -31,8 +29,6 @@ use Rattle.fact_index.specs.Inner.{Indexed, indexed_count, Clean}
 use Rattle.valuing.specs.Search.{Topping, Tops}
 use Rattle.valuing.specs.Walks.{bound_number, bound_answer, climbed, is_few, Prepared}
 use Rattle.valuing.specs.WalkLaws.{topping-room, prepared}
-use Rattle.count_states.specs.declared.Counted.{Counted}
-use Rattle.count_states.specs.declared.Counted.TheVariants as Counted
 use Rattle.count_states.specs.Counted.{counted_as, Countable, Counts}
 use Rattle.count_states.specs.Facts.{Power, Declared, picked, Chosen}
 use Rattle.count_states.specs.Table.{line_words, entries_at, most_states, enter, Enterable, Entered}
@@ -40,6 +36,7 @@ use Rattle.count_states.specs.States.{Valuing, Choices, value_of, large_at, rows
 use Rattle.count_states.proofs.ChoiceLaws.{picked-lent}
 use Rattle.count_states.proofs.TableLaws.{entries-words}
 use Rattle.count_states.proofs.EntryLaws.{entries-step, entries-count, entries-enterable}
+use Rattle.std.specs.Prelude.{Err, Ok, Result}
 
 -- ===== value_facts =====
 pub facts-prepared : {ar ws high : List ℕ} {few plain : Bool} {n : ℕ} {constants facts index : List ℕ} → Valuing ar ws high few plain n → is_state ar n constants facts ≡ true
@@ -54,7 +51,7 @@ pub chosen-state : {ar : List ℕ} {n : ℕ} {constants rows : List ℕ} {g : �
     → is_state ar n constants (take m facts') ≡ true
 chosen-state {ar} {n} {constants} {c = c} h k = ap (is_state ar n constants) k.words ∙ h.lent c
 
-pub chosen-value : (ar ws : List ℕ) (n : ℕ) (constants : List ℕ) {rows facts' : List ℕ} {g c m : ℕ} {r : Valued} → Chosen rows g c m facts'
+pub chosen-value : (ar ws : List ℕ) (n : ℕ) (constants : List ℕ) {rows facts' : List ℕ} {g c m : ℕ} {r : Result ℕ Refusal} → Chosen rows g c m facts'
     → r ≡ climbed 0 (bound_answer ar ws n constants (take m facts') []) → r ≡ climbed 0 (bound_answer ar ws n constants (picked rows g c) [])
 chosen-value ar ws n constants k e = e ∙ ap (λ z. climbed 0 (bound_answer ar ws n constants z [])) k.words
 
@@ -82,32 +79,40 @@ counting-start ar ws n constants rows g facts index table states k =
 abbrev pub too_large : List ℕ → List ℕ → ℕ → List ℕ → List ℕ → Bool
 too_large ar ws n constants facts = is_too_large ar (state_of ar n constants facts) [] ws
 
-module _ (ar ws : List ℕ) (n : ℕ) (constants facts : List ℕ) {r : Valued} (e : r ≡ climbed 0 (bound_answer ar ws n constants facts [])) where
-  answered : (b : Bool) → too_large ar ws n constants facts ≡ b → r ≡ climbed 0 (cond b (Refused Valuations) (Value (bound_number ar ws n constants facts [])))
+module _ (ar ws : List ℕ) (n : ℕ) (constants facts : List ℕ) {r : Result ℕ Refusal} (e : r ≡ climbed 0 (bound_answer ar ws n constants facts [])) where
+  answered : (b : Bool) → too_large ar ws n constants facts ≡ b → r ≡ climbed 0 (cond b (Err Valuations) (Ok (bound_number ar ws n constants facts [])))
   unfolding bound_answer
-  answered b q = e ∙ ap (λ z. climbed 0 (cond z (Refused Valuations) (Value (bound_number ar ws n constants facts [])))) q
+  answered b q = e ∙ ap (λ z. climbed 0 (cond z (Err Valuations) (Ok (bound_number ar ws n constants facts [])))) q
 
-  pub value-told : {v : ℕ} → r ≡ Value v → (too_large ar ws n constants facts ≡ false) × (v ≡ suc (bound_number ar ws n constants facts []))
+  pub value-told : {v : ℕ} → r ≡ Ok v → (too_large ar ws n constants facts ≡ false) × (v ≡ suc (bound_number ar ws n constants facts []))
   unfolding climbed
   value-told {v} q = go (flag (too_large ar ws n constants facts))
     where
       go : Flag (too_large ar ws n constants facts) → (too_large ar ws n constants facts ≡ false) × (v ≡ suc (bound_number ar ws n constants facts []))
-      go (is_true t) = let z : Value v ≡ Refused Valuations = sym q ∙ answered true t in let w : ◌≡◌ {A = ℕ} 0 1 = cc in absurd (omega arith)
+      go (is_true t) = let z : Ok v ≡ Err Valuations = sym q ∙ answered true t in let w : ◌≡◌ {A = ℕ} 0 1 = cc in absurd (omega arith)
       go (is_false t) =
-          let z : Value v ≡ Value (max 0 (suc (bound_number ar ws n constants facts []))) = sym q ∙ answered false t in
+          let z : Ok v ≡ Ok (max 0 (suc (bound_number ar ws n constants facts []))) = sym q ∙ answered false t in
           let w : v ≡ max 0 (suc (bound_number ar ws n constants facts [])) = cc in
           (t, omega arith)
 
-  pub refusal-told : {why : Refusal} → r ≡ Refused why → too_large ar ws n constants facts ≡ true
+  pub refusal-told : {why : Refusal} → r ≡ Err why → too_large ar ws n constants facts ≡ true
   unfolding climbed
   refusal-told {why} q = go (flag (too_large ar ws n constants facts))
     where
       go : Flag (too_large ar ws n constants facts) → too_large ar ws n constants facts ≡ true
       go (is_true t) = t
       go (is_false t) =
-          let z : Refused why ≡ Value (max 0 (suc (bound_number ar ws n constants facts []))) = sym q ∙ answered false t in
+          let z : Err why ≡ Ok (max 0 (suc (bound_number ar ws n constants facts []))) = sym q ∙ answered false t in
           let w : ◌≡◌ {A = ℕ} 0 1 = cc in
           absurd (omega arith)
+
+  why-told : {why : Refusal} → r ≡ Err why → why ≡ Valuations
+  unfolding climbed
+  why-told {why} q = go (flag (too_large ar ws n constants facts))
+    where
+      go : Flag (too_large ar ws n constants facts) → why ≡ Valuations
+      go (is_true t) = let z : Err why ≡ Err Valuations = sym q ∙ answered true t in cc
+      go (is_false t) = let z : Err why ≡ Ok (max 0 (suc (bound_number ar ws n constants facts []))) = sym q ∙ answered false t in cc
 
 module _ {ar ws : List ℕ} {n : ℕ} {constants rows : List ℕ} {g : ℕ} {facts₀ index₀ table₀ : List ℕ} {states : ℕ} {facts index table : List ℕ} {count c : ℕ}
     (h : Choices ar n constants rows g facts₀) (e : states ≡ 2 ^ g) (k : Counting ar ws n constants rows g facts₀ index₀ table₀ states facts index table count c) where
@@ -118,10 +123,13 @@ module _ {ar ws : List ℕ} {n : ℕ} {constants rows : List ℕ} {g : ℕ} {fac
   states-few = omega (arith, e, pow-le-pow_right {n = 2} (omega arith) h.few)
 
   -- a choice that meets 15 refuses all
-  pub counting-refused : {r : Valued} {why : Refusal} → c < states → r ≡ climbed 0 (bound_answer ar ws n constants (picked rows g c) []) → r ≡ Refused why
-      → Counts (rows_spread ar ws n constants rows g) (Counted.Refused Valuations) table
+  pub counting-refused : {r : Result ℕ Refusal} {why : Refusal} → c < states → r ≡ climbed 0 (bound_answer ar ws n constants (picked rows g c) []) → r ≡ Err why
+      → Counts (rows_spread ar ws n constants rows g) (Err why) table
   unfolding rows_spread
-  counting-refused {r} {why} l q t = record { answer = sym (ap counted_as is); lines = λ es z. absurd (none es z) }
+  counting-refused {r} {why} l q t = record {
+    answer = ap Err (why-told ar ws n constants (picked rows g c) q t) ∙ sym (ap counted_as is);
+    lines = λ es z. absurd (none es z);
+  }
     where
       some : some_below (2 ^ g) (large_at ar ws n constants rows g) ≡ true
       some = some-made (2 ^ g) (large_at ar ws n constants rows g) c (omega (arith, e)) (refusal-told ar ws n constants (picked rows g c) q t)
@@ -139,9 +147,9 @@ module _ {ar ws : List ℕ} {n : ℕ} {constants rows : List ℕ} {g : ℕ} {fac
     pub counting-enterable : c < states → Enterable table count
     counting-enterable l = entries-enterable table count c (value_of ar ws n constants rows g) k.entered (omega (arith, states-few)) lines-room
 
-    pub counting-end : states ≤ c → Counts (rows_spread ar ws n constants rows g) (Counted.Lines count) table
+    pub counting-end : states ≤ c → Counts (rows_spread ar ws n constants rows g) (Ok count) table
     unfolding rows_spread
-    counting-end l = record { answer = ap Counted.Lines (entries-count table count c (value_of ar ws n constants rows g) k.entered) ∙ sym (ap counted_as is); lines = λ es z. words es z }
+    counting-end l = record { answer = ap Ok (entries-count table count c (value_of ar ws n constants rows g) k.entered) ∙ sym (ap counted_as is); lines = λ es z. words es z }
       where
         f : ℕ → ℕ
         f = value_of ar ws n constants rows g
@@ -164,12 +172,12 @@ module _ {ar ws : List ℕ} {n : ℕ} {constants rows : List ℕ} {g : ℕ} {fac
             whole [] (suc i) h = refl
             whole (x ∷ t) (suc i) h = ap (λ z. x ∷ z) (whole t i (omega arith))
 
-  pub value-some : {r : Valued} {v : ℕ} → r ≡ climbed 0 (bound_answer ar ws n constants (picked rows g c) []) → r ≡ Value v → 1 ≤ v
+  pub value-some : {r : Result ℕ Refusal} {v : ℕ} → r ≡ climbed 0 (bound_answer ar ws n constants (picked rows g c) []) → r ≡ Ok v → 1 ≤ v
   value-some {r} {v} q t = omega (arith, (value-told ar ws n constants (picked rows g c) q t).1)
 
   -- one choice more
-  pub counting-on : {r : Valued} {v : ℕ} {facts' index' table' : List ℕ} {count' : ℕ} → c < states
-      → r ≡ climbed 0 (bound_answer ar ws n constants (picked rows g c) []) → r ≡ Value v
+  pub counting-on : {r : Result ℕ Refusal} {v : ℕ} {facts' index' table' : List ℕ} {count' : ℕ} → c < states
+      → r ≡ climbed 0 (bound_answer ar ws n constants (picked rows g c) []) → r ≡ Ok v
       → length facts' ≡ length facts → length index' ≡ length index → length table' ≡ length table
       → Clean index' → Entered table count (v - 1) count' table'
       → Counting ar ws n constants rows g facts₀ index₀ table₀ states facts' index' table' count' (c + 1)
@@ -201,7 +209,7 @@ module _ {ar : List ℕ} {count n : ℕ} {constants ws table : List ℕ} (h : Co
   count-valuing m o s t f k = record { listed = h.listed; places = omega (arith, length-replicate {A = ℕ} m 0); tops = t; fits = f; kinds = k }
 
   module _ {g : ℕ} (e : g ≡ ground_count ar count n) where
-    pub count-many : most_ground < g → Counts (spread ar count n constants ws) (Counted.Refused TooManyGround) table
+    pub count-many : most_ground < g → Counts (spread ar count n constants ws) (Err TooManyGround) table
     count-many l = record { answer = sym (ap counted_as is); lines = λ es z. absurd (none es z) }
       where
         is : spread ar count n constants ws ≡ refused TooManyGround
@@ -248,5 +256,5 @@ module _ {ar : List ℕ} {count n : ℕ} {constants ws table : List ℕ} (h : Co
           (ok (entries (2 ^ z) (λ c. bound_number ar ws n constants (lent_choice ar count n c) [])))) e
           ∙ sym (rw (le-ltb most_ground (ground_count ar count n) (omega (arith, e))))
 
-      pub count-done : {x : Counted} {table' : List ℕ} → Counts (rows_spread ar ws n constants rows g) x table' → Counts (spread ar count n constants ws) x table'
+      pub count-done : {x : Result ℕ Refusal} {table' : List ℕ} → Counts (rows_spread ar ws n constants rows g) x table' → Counts (spread ar count n constants ws) x table'
       count-done {x} {table'} c = subst (λ o. Counts o x table') same-spread c

@@ -156,10 +156,16 @@ pub shift-start : (t : List ℕ) (at count : ℕ) → at ≤ count → Shifting 
 shift-start t at count h = record { size = refl; low = h; top = omega arith; still = λ j l. refl; moved = λ j l k. absurd (omega arith) }
 
 module _ {t₀ t : List ℕ} {at count i : ℕ} (r : count * line_words + line_words ≤ length t₀) (s : Shifting t₀ at count t i) (h : at < i) where
-  pub shift-room : i * line_words + line_words ≤ length t
-  shift-room = omega (arith, s.top, s.size)
+  here : i - 1 + 1 ≡ i
+  here = omega arith
 
-  pub shift-on : {t' : List ℕ} → length t' ≡ length t → t' ≡ put_entry t i (get_or t ((i - 1) * line_words) 0) (get_or t ((i - 1) * line_words + 1) 0) → Shifting t₀ at count t' (i - 1)
+  room : i * line_words + line_words ≤ length t
+  room = omega (arith, s.top, s.size)
+
+  pub shift-room : (i - 1 + 1) * line_words + line_words ≤ length t
+  shift-room = rw here room
+
+  pub shift-on : {t' : List ℕ} → length t' ≡ length t → t' ≡ put_entry t (i - 1 + 1) (get_or t ((i - 1) * line_words) 0) (get_or t ((i - 1) * line_words + 1) 0) → Shifting t₀ at count t' (i - 1)
   unfolding entry_at
   shift-on {t'} l e = record {
     size = l ∙ s.size;
@@ -175,14 +181,17 @@ module _ {t₀ t : List ℕ} {at count i : ℕ} (r : count * line_words + line_w
       y : ℕ
       y = get_or t ((i - 1) * line_words + 1) 0
 
+      there : t' ≡ put_entry t i x y
+      there = e ∙ ap (λ j. put_entry t j x y) here
+
       other : (j : ℕ) → (j ≡ i → ⊥) → entry_at t' j ≡ entry_at t j
-      other j q = ap (λ z. entry_at z j) e ∙ put_other t i x y j q
+      other j q = ap (λ z. entry_at z j) there ∙ put_other t i x y j q
 
       go : (j : ℕ) → i - 1 ≤ j → j < count → Cmp j (i - 1) → entry_at t' (suc j) ≡ entry_at t₀ j
       go j k m (below q) = absurd (omega arith)
       go j k m (equal q) =
           let z : suc j ≡ i = omega arith in
-          ap₂ entry_at e z ∙ put_same t i x y shift-room ∙ ap (entry_at t) (sym q) ∙ s.still j (omega arith)
+          ap₂ entry_at there z ∙ put_same t i x y room ∙ ap (entry_at t) (sym q) ∙ s.still j (omega arith)
       go j k m (above q) = other (suc j) (λ z. omega arith) ∙ s.moved j (omega arith) m
 
 pub shift-end : {t₀ t : List ℕ} {at count i : ℕ} → Shifting t₀ at count t i → i ≤ at → Shifted t₀ at count t
@@ -193,9 +202,9 @@ shift-end {t₀} {t} {at} {count} {i} s h = record {
 
 -- ===== is_there =====
 module _ (t : List ℕ) (count at v : ℕ) where
-  pub there-past : count ≤ at → false ≡ is_there t count at v
+  pub there-past : count ≤ at → ltb at count ≡ is_there t count at v
   unfolding is_there
-  there-past h = sym (rw (le-ltb at count h))
+  there-past h = rw (le-ltb at count h)
 
   there-is : at < count → value_at t at ≡ v → true ≡ is_there t count at v
   unfolding is_there

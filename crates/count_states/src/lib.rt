@@ -14,14 +14,7 @@ ghost use Rattle.count_states.specs.Table.{line_words, put_entry, is_there, Ente
 ghost use Rattle.count_states.specs.States.{Valuing, Choices, rows_spread, Spreading};
 
 use refusal::Refusal;
-use state::{FACT_WORDS, Valued};
-
-// What counting answers: how many lines, or why there is none.
-#[derive(Clone, Copy)]
-pub enum Counted {
-    Lines(usize),
-    Refused(Refusal),
-}
+use state::FACT_WORDS;
 
 // Words of a line in the table: a value, and how many states have it.
 const LINE_WORDS: usize = 2;
@@ -36,10 +29,8 @@ fn power(n: u64, k: u64) -> u64
     ensures { result ≡ n ^ k }
 {
     let mut p = 1;
-    let mut i = 0;
-    while i < k {
+    for i in 0..k {
         p = p * n;
-        i += 1;
     }
     p
 }
@@ -50,10 +41,8 @@ fn ground_count(arities: &[u64], predicates: usize, n: u64) -> u64
     ensures { result ≡ ground_count arities.now predicates n }
 {
     let mut g = 0;
-    let mut p = 0;
-    while p < predicates {
+    for p in 0..predicates {
         g = g + power(n, arities[p + 1]);
-        p += 1;
     }
     g
 }
@@ -64,11 +53,9 @@ fn fill_places(row: &mut [u64], n: u64, k: usize, t: u64)
     ensures { row.new ≡ take 1 row.old ++ digits n k t ++ drop (1 + k) row.old }
 {
     let mut rest = t;
-    let mut j = k;
-    while j > 0 {
-        row[j] = rest % n;
+    for j in (0..k).rev() {
+        row[j + 1] = rest % n;
         rest = rest / n;
-        j -= 1;
     }
 }
 
@@ -78,11 +65,7 @@ fn copy_row(from: &[u64], i: usize, to: &mut [u64], at: usize)
     requires fact_words_in_bounds_2 { at + fact_words ≤ length to.old }
     ensures { to.new ≡ paste to.old at (drop i from.now) fact_words }
 {
-    let mut j = 0;
-    while j < FACT_WORDS {
-        to[at + j] = from[i + j];
-        j += 1;
-    }
+    to[at..at + FACT_WORDS].copy_from_slice(&from[i..i + FACT_WORDS]);
 }
 
 // Writes row `at`: the fact of p, which has k places, with the number t.
@@ -101,10 +84,8 @@ fn write_facts(rows: &mut [u64], at: usize, p: u64, n: u64, k: usize, m: usize)
     requires { Writable rows.old at n k m }
     ensures { Follow rows.old at (first_facts n p k m) m rows.new }
 {
-    let mut t = 0;
-    while t < m {
+    for t in 0..m {
         write_fact(rows, at + t, p, n, k, t as u64);
-        t += 1;
     }
 }
 
@@ -115,13 +96,11 @@ fn write_ground(arities: &[u64], predicates: usize, n: u64, rows: &mut [u64])
     ensures { take (ground_count arities.now predicates n * fact_words) rows.new ≡ rows_of (ground_facts arities.now predicates n) }
 {
     let mut at = 0;
-    let mut p = 0;
-    while p < predicates {
+    for p in 0..predicates {
         let k = arities[p + 1];
         let m = power(n, k) as usize;
         write_facts(rows, at, (p + 1) as u64, n, k as usize, m);
         at = at + m;
-        p += 1;
     }
 }
 
@@ -132,17 +111,12 @@ fn choose(rows: &[u64], g: usize, c: u64, facts: &mut [u64]) -> usize
 {
     let mut m = 0;
     let mut rest = c;
-    let mut i = 0;
-    while i < g {
+    for i in 0..g {
         if rest % 2 == 1 {
             copy_row(rows, i * FACT_WORDS, facts, m);
             m = m + FACT_WORDS;
-            rest = rest / 2;
-            i += 1;
-        } else {
-            rest = rest / 2;
-            i += 1;
         }
+        rest = rest / 2;
     }
     m
 }
@@ -180,12 +154,10 @@ fn shift_up(table: &mut [u64], at: usize, count: usize)
     requires line_words_in_bounds { count * line_words + line_words ≤ length table.old }
     ensures { Shifted table.old at count table.new }
 {
-    let mut i = count;
-    while i > at {
-        let value = table[(i - 1) * LINE_WORDS];
-        let states = table[(i - 1) * LINE_WORDS + 1];
-        put_entry(table, i, value, states);
-        i -= 1;
+    for i in (at..count).rev() {
+        let value = table[i * LINE_WORDS];
+        let states = table[i * LINE_WORDS + 1];
+        put_entry(table, i + 1, value, states);
     }
 }
 
@@ -194,10 +166,7 @@ fn is_there(table: &[u64], count: usize, at: usize, v: u64) -> bool
     requires { count * line_words ≤ length table.now }
     ensures { result ≡ is_there table.now count at v }
 {
-    if at >= count {
-        return false;
-    }
-    table[at * LINE_WORDS] == v
+    at < count && table[at * LINE_WORDS] == v
 }
 
 // Counts one more state of value v, and says how many entries there are then.
@@ -227,7 +196,7 @@ fn value_facts(
     constants: &[u64],
     facts: &[u64],
     index: &mut [u64],
-) -> Valued
+) -> Result<u64, Refusal>
     requires valuing { Valuing arities.now words.now high.now few plain n }
     requires facts_value { is_state arities.now n constants.now facts.now ≡ true }
     requires clean { Clean index.old }
@@ -266,7 +235,7 @@ fn value_choice(
     c: u64,
     facts: &mut [u64],
     index: &mut [u64],
-) -> Valued
+) -> Result<u64, Refusal>
     requires valuing { Valuing arities.now words.now high.now few plain n }
     requires choices { Choices arities.now n constants.now rows.now g facts.old }
     requires clean { Clean index.old }
@@ -301,7 +270,7 @@ fn count_choices(
     facts: &mut [u64],
     index: &mut [u64],
     table: &mut [u64],
-) -> Counted
+) -> Result<usize, Refusal>
     requires valuing { Valuing arities.now words.now high.now few plain n }
     requires choices { Choices arities.now n constants.now rows.now g facts.old }
     requires clean { Clean index.old }
@@ -310,17 +279,13 @@ fn count_choices(
 {
     let states = power(2, g as u64);
     let mut count = 0;
-    let mut c = 0;
-    while c < states {
-        let Valued::Value(v) = value_choice(
+    for c in 0..states {
+        let v = value_choice(
             arities, words, high, few, plain, n, constants, rows, g, c, facts, index,
-        ) else {
-            return Counted::Refused(Refusal::Valuations);
-        };
+        )?;
         count = enter(table, count, v - 1);
-        c += 1;
     }
-    Counted::Lines(count)
+    Ok(count)
 }
 
 // How many states of n objects have which value of the listing: a line for each value that occurs, lowest first, in the table.
@@ -331,13 +296,13 @@ pub fn count(
     constants: &[u64],
     words: &[u64],
     table: &mut [u64],
-) -> Counted
+) -> Result<usize, Refusal>
     requires { Countable arities.now predicates n constants.now words.now table.old }
     ensures { Counts (spread arities.now predicates n constants.now words.now) result table.new }
 {
     let g = ground_count(arities, predicates, n) as usize;
     if g > GROUND {
-        return Counted::Refused(Refusal::Ground);
+        return Err(Refusal::Ground);
     }
     let mut rows = [0u64; GROUND * FACT_WORDS];
     write_ground(arities, predicates, n, &mut rows);

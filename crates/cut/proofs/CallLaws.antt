@@ -30,11 +30,11 @@ use Rattle.paths.specs.Inner.{Rows, Counted, Routed}
 use Rattle.cutting.specs.declared.Edge.TheVariants.{True, False}
 use Rattle.cutting.specs.declared.Cut.{Cut}
 use Rattle.cutting.specs.declared.Cut.TheVariants.{Done, Refused}
-use Rattle.cut.specs.declared.Chosen.{Chosen}
-use Rattle.cut.specs.declared.Chosen.TheVariants.{Edge, Nothing}
 use Rattle.cut.specs.Calls.{Cuttable, Choosable, Writable, Trimmed}
 use Rattle.cut.specs.Choosing.{chosen_as}
 use Rattle.paths.specs.PathLaws.{listing-rows}
+use Rattle.std.specs.Prelude.{None, Option, Some}
+use Rattle.std.proofs.lemmas.Option.{some_pair_parts}
 
 -- what is promised where the listing is checked
 abbrev pub Answers : List ℕ → List ℕ → List ℕ → Cut → List ℕ → Type 0
@@ -86,11 +86,13 @@ chosen-row ar d rs (suc n) k b e = go (may_go ar d true (row_tree rs n)) (may_go
     go false false q rec = let z = rec q in omega arith
 
 -- what was chosen is the choice
-chosen-edge : (c : Choice) {k : ℕ} {b : Bool} → Edge k b ≡ chosen_as c → c ≡ goes k b
-chosen-edge (goes j x) e = let p : Edge _ _ ≡ Edge j x = e in cc
+chosen-edge : (c : Choice) {k : ℕ} {b : Bool} → Some (k, b) ≡ chosen_as c → c ≡ goes k b
+chosen-edge (goes j x) {k} {b} e =
+    let p = some_pair_parts k j b x e in
+    ap₂ goes (sym p.0) (sym p.1)
 chosen-edge stays e = absurd (let z : ◌≡◌ {A = ℕ} 0 1 = cc in omega arith)
 
-chosen_none : (c : Choice) → Nothing ≡ chosen_as c → c ≡ stays
+chosen_none : (c : Choice) → None ≡ chosen_as c → c ≡ stays
 chosen_none (goes j x) e = absurd (let z : ◌≡◌ {A = ℕ} 0 1 = cc in omega arith)
 chosen_none stays e = refl
 
@@ -152,14 +154,14 @@ module _ {ar ws out work : List ℕ} (g : Choosable ar ws out work) where
       answer-is : diagram_answer ar D ≡ chosen_answer ar D (choice ar D)
       answer-is = answer-few ar D g.plain (omega (arith, few))
 
-      module _ {x : Chosen} (e : x ≡ chosen_as (choice ar D)) where
-        pub cut-nothing : x ≡ Nothing → Answers ar ws out (Refused NoEdge) out
+      module _ {x : Option (ℕ × Bool)} (e : x ≡ chosen_as (choice ar D)) where
+        pub cut-nothing : x ≡ None → Answers ar ws out (Refused NoEdge) out
         cut-nothing q = (
           sym (answer-is ∙ ap (chosen_answer ar D) (chosen_none (choice ar D) (sym q ∙ e)) ∙ answer-none ar D),
           sym (buffer-refused ar ws out NoEdge),
         )
 
-        module _ {k : ℕ} {b : Bool} (q : x ≡ Edge k b) where
+        module _ {k : ℕ} {b : Bool} (q : x ≡ Some (k, b)) where
           choice-is : choice ar D ≡ goes k b
           choice-is = chosen-edge (choice ar D) (sym q ∙ e)
 

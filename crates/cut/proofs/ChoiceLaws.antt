@@ -19,9 +19,9 @@ use Rattle.diagram.specs.DiagramOfListing.{diagram-is, rows_are}
 use Rattle.diagram.specs.ListingValid.{listing-is-valid}
 use Rattle.cutting.specs.Cut.{goes, stays, may_go, choice_below, choice}
 use Rattle.paths.specs.Inner.{Routed, Leaves}
-use Rattle.cut.specs.declared.Chosen.TheVariants.{Edge, Nothing}
 use Rattle.cut.specs.Choosing.{Sides, Charted, Known, Asking, Edged, Tested, EdgeFound, first_edge, chosen_as}
 use Rattle.paths.specs.PathLaws.{row_is}
+use Rattle.std.specs.Prelude.{None, Some}
 
 -- nothing has been asked yet
 pub known-none : (ar ws : List ℕ) (n k : ℕ) → 65536 ≤ k → Known ar ws (replicate k 0) n
@@ -128,7 +128,7 @@ module _ (ar ws : List ℕ) (n : ℕ) (l : is_listing ar ws ≡ true) (w : n ≡
         o ∙ ap (choice_below ar D (rows D)) x ∙ below_more ar D (rows D) (i - 1)
         ∙ (λ j. cond (may_go ar (z j) true (y j)) (goes (i - 1) true) (cond (may_go ar (z j) false (y j)) (goes (i - 1) false) (choice_below ar D (rows D) (i - 1))))
 
-    pub choose-true : e ≡ 1 → Edge (i - 1) true ≡ chosen_as (choice ar D)
+    pub choose-true : e ≡ 1 → Some ((i - 1), true) ≡ chosen_as (choice ar D)
     choose-true x =
         sym
         (ap chosen_as
@@ -136,7 +136,7 @@ module _ (ar ws : List ℕ) (n : ℕ) (l : is_listing ar ws ≡ true) (w : n ≡
         ∙ ap (λ (b : Bool). cond b (goes (i - 1) true) (cond Low (goes (i - 1) false) (choice_below ar D (rows D) (i - 1))))
         (first-true High Low (sym x ∙ f.answer))))
 
-    pub choose-false : e ≡ 2 → Edge (i - 1) false ≡ chosen_as (choice ar D)
+    pub choose-false : e ≡ 2 → Some ((i - 1), false) ≡ chosen_as (choice ar D)
     choose-false x =
         let y = first-false High Low (sym x ∙ f.answer) in
         sym (ap chosen_as (step ∙ ap₂ (λ (a : Bool) (b : Bool). cond a (goes (i - 1) true) (cond b (goes (i - 1) false) (choice_below ar D (rows D) (i - 1)))) y.0 y.1))
@@ -146,5 +146,5 @@ module _ (ar ws : List ℕ) (n : ℕ) (l : is_listing ar ws ≡ true) (w : n ≡
         let y = first-none High Low f.answer x u in
         step ∙ ap₂ (λ (a : Bool) (b : Bool). cond a (goes (i - 1) true) (cond b (goes (i - 1) false) (choice_below ar D (rows D) (i - 1)))) y.0 y.1
 
-  pub choose-none : {i : ℕ} → choice ar D ≡ choice_below ar D (rows D) i → i ≤ 0 → Nothing ≡ chosen_as (choice ar D)
+  pub choose-none : {i : ℕ} → choice ar D ≡ choice_below ar D (rows D) i → i ≤ 0 → None ≡ chosen_as (choice ar D)
   choose-none {i} o h = let z : i ≡ 0 = omega arith in sym (ap chosen_as (o ∙ ap (choice_below ar D (rows D)) z ∙ below_none ar D (rows D)))

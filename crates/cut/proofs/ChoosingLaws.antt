@@ -207,18 +207,13 @@ module _ {ar ws counts leaves sides memo : List ℕ} {n m : ℕ} (a : Asking ar 
 
 -- `is_zero`
 module _ {ws : List ℕ} {n i : ℕ} (w : Rows ws n) (h : i < n) where
-  pub zero-branch : (get_or ws (i * 3) 0 ≡ leaf_mark → ⊥) → false ≡ same (tree ws i) (leaf 0)
+  pub zero-branch : (get_or ws (i * 3) 0 ≡ leaf_mark → ⊥) → eqb (get_or ws (i * 3) 0) leaf_mark ≡ same (tree ws i) (leaf 0)
   unfolding label_at same
-  zero-branch e = rw (w.shown.branches i h e)
+  zero-branch e = rw (ne_eqb (get_or ws (i * 3) 0) leaf_mark e, w.shown.branches i h e)
 
-  module _ (e : get_or ws (i * 3) 0 ≡ leaf_mark) where
-    pub zero-other : (get_or ws (i * 3 + 1) 0 ≡ 0 → ⊥) → false ≡ same (tree ws i) (leaf 0)
-    unfolding label_at high_at same
-    zero-other z = rw (w.shown.leaves i h e, ne_eqb (get_or ws (i * 3 + 1) 0) 0 z)
-
-    pub zero_is : get_or ws (i * 3 + 1) 0 ≡ 0 → true ≡ same (tree ws i) (leaf 0)
-    unfolding label_at high_at same
-    zero_is z = rw (w.shown.leaves i h e, z, eq-eqb 0 0 refl)
+  pub zero-leaf : get_or ws (i * 3) 0 ≡ leaf_mark → eqb (get_or ws (i * 3 + 1) 0) 0 ≡ same (tree ws i) (leaf 0)
+  unfolding label_at high_at same
+  zero-leaf e = rw (w.shown.leaves i h e)
 
 -- `may_go`
 module _ (ar ws : List ℕ) (n : ℕ) (sides : List ℕ) (side m : ℕ) where

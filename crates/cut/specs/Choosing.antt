@@ -10,8 +10,7 @@ use Rattle.cutting.specs.Cut.{Choice, goes, stays, covers, may_go}
 use Rattle.paths.specs.Inner.{Routed, Leaves, Sided}
 use Rattle.paths.specs.Routes.{path_at}
 use Rattle.matcher.specs.Covering.{Held}
-use Rattle.cut.specs.declared.Chosen.{Chosen}
-use Rattle.cut.specs.declared.Chosen.TheVariants.{Edge, Nothing}
+use Rattle.std.specs.Prelude.{None, Option, Some}
 
 -- path p of the n rows of words
 abbrev pub path_of : List ℕ → ℕ → ℕ → Path
@@ -96,6 +95,6 @@ pub record EdgeFound (ar ws : List ℕ) (n r e : ℕ) (memo' : List ℕ) : Type 
   pub known : Known ar ws memo' n
 
 -- the choice as it is handed on
-abbrev pub chosen_as : Choice → Chosen
-chosen_as (goes k b) = Edge k b
-chosen_as stays = Nothing
+abbrev pub chosen_as : Choice → Option (ℕ × Bool)
+chosen_as (goes k b) = Some (k, b)
+chosen_as stays = None

@@ -28,13 +28,6 @@ const TERMS: usize = Term::END as usize;
 // A place for each pair of paths.
 const MEMO: usize = 65536;
 
-// Which edge goes: the row and whether it is the true edge; or that none may.
-#[derive(Clone, Copy)]
-enum Chosen {
-    Edge(usize, bool),
-    Nothing,
-}
-
 // Finds where each of the m paths goes through row r.
 fn find_sides(words: &[u64], counts: &[u64], n: usize, m: usize, r: usize, sides: &mut [u64])
     requires routed { Routed words.now counts.now n m }
@@ -42,10 +35,8 @@ fn find_sides(words: &[u64], counts: &[u64], n: usize, m: usize, r: usize, sides
     requires m_in_bounds { m ≤ length sides.old }
     ensures { Sides words.now sides.new n m r }
 {
-    let mut p = 0;
-    while p < m {
+    for p in 0..m {
         sides[p] = paths::side_of(words, counts, n, p as u64, r);
-        p += 1;
     }
 }
 
@@ -140,14 +131,12 @@ fn some_cover(
     requires p_lt_m { p < m }
     ensures { Tested arities.now words.now n (cover_below arities.now words.now n sides.now side p m) result memo.new }
 {
-    let mut q = 0;
-    while q < m {
+    for q in 0..m {
         if is_cover(
             arities, words, counts, n, m, leaves, sides, memo, into, a, kinds, from, side, p, q,
         ) {
             return true;
         }
-        q += 1;
     }
     false
 }
@@ -210,13 +199,7 @@ fn is_zero(words: &[u64], n: usize, i: usize) -> bool
     requires i_lt_n { i < n }
     ensures { result ≡ same (tree words.now i) (leaf 0) }
 {
-    if words[i * 3] != Label::LEAF {
-        return false;
-    }
-    if words[i * 3 + 1] != 0 {
-        return false;
-    }
-    true
+    words[i * 3] == Label::LEAF && words[i * 3 + 1] == 0
 }
 
 // Whether the edge of row r may go to leaf 0: the true edge for side 1, the false edge for side 2.
@@ -239,12 +222,10 @@ fn may_go(
     if is_zero(words, n, words[r * 3 + (side as usize)] as usize) {
         return false;
     }
-    let mut p = 0;
-    while p < m {
+    for p in 0..m {
         if !is_free(arities, words, counts, n, m, leaves, sides, memo, side, p) {
             return false;
         }
-        p += 1;
     }
     true
 }
@@ -279,8 +260,14 @@ fn edge_of(
     0
 }
 
-// The highest row, true edge first, whose edge may go.
-fn choose(arities: &[u64], words: &[u64], counts: &[u64], n: usize, m: usize) -> Chosen
+// The highest row, true edge first, whose edge may go: the row, and whether it is the true edge.
+fn choose(
+    arities: &[u64],
+    words: &[u64],
+    counts: &[u64],
+    n: usize,
+    m: usize,
+) -> Option<(usize, bool)>
     requires words_value { is_listing arities.now words.now ≡ true }
     requires words_value_2 { is_plain arities.now (diagram_of words.now) ≡ true }
     requires n_value { n ≡ row_count words.now }
@@ -290,18 +277,16 @@ fn choose(arities: &[u64], words: &[u64], counts: &[u64], n: usize, m: usize) ->
     let mut leaves = [0u64; PATHS];
     paths::find_leaves(words, counts, n, m, &mut leaves);
     let mut memo = [0u16; MEMO];
-    let mut i = n;
-    while i > 0 {
-        let e = edge_of(arities, words, counts, n, m, &leaves, &mut memo, i - 1);
+    for i in (0..n).rev() {
+        let e = edge_of(arities, words, counts, n, m, &leaves, &mut memo, i);
         if e == 1 {
-            return Chosen::Edge(i - 1, true);
+            return Some((i, true));
         }
         if e == 2 {
-            return Chosen::Edge(i - 1, false);
+            return Some((i, false));
         }
-        i -= 1;
     }
-    Chosen::Nothing
+    None
 }
 
 // Where the word of the edge of row k on that side stands: a row has two, the true edge's first.
@@ -309,10 +294,7 @@ fn edge_place(k: usize, side: bool) -> usize
     requires { k < most_rows }
     ensures { result ≡ edge_at k side }
 {
-    if side {
-        return k * 2;
-    }
-    k * 2 + 1
+    if side { k * 2 } else { k * 2 + 1 }
 }
 
 // Writes what is left once the edge of row k goes to leaf 0, closed up, and answers its rows.
@@ -345,7 +327,7 @@ fn cut_plain(arities: &[u64], words: &[u64], out: &mut [u64], work: &mut [u64]) 
     if m > PATHS {
         return Cut::Refused(Refusal::Paths);
     }
-    let Chosen::Edge(k, side) = choose(arities, words, &counts, n, m) else {
+    let Some((k, side)) = choose(arities, words, &counts, n, m) else {
         return Cut::Refused(Refusal::Nothing);
     };
     let left = write_left(arities, words, k, side, out, work);

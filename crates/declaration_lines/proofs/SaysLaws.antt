@@ -30,8 +30,6 @@ use Rattle.session.specs.Session.{Names, with_names, refuse_if, with_actions}
 use Rattle.session.specs.Declaring.{constant_line, Vocabulary, predicate_line, with_vocabulary, is_total, total_line, with_total, is_discount, discount_line, with_discount, repeated, action_line, with_action}
 use Rattle.session.specs.Replies.{done, words_of}
 use Rattle.declare.specs.declared.Counts.{Counts}
-use Rattle.declare.specs.declared.Declared.{Declared}
-use Rattle.declare.specs.declared.Declared.TheVariants.{Done, Refused}
 use Rattle.declare.specs.Inner.{Named, Naming, vocabulary_of, Worded, Wording}
 use Rattle.declare.specs.Tables.{names_of, GoodVocabulary}
 use Rattle.facts.specs.Words.{live_of}
@@ -49,6 +47,7 @@ use Rattle.memory.specs.WordLaws.{first-is, second_is, rest-is}
 use Rattle.memory.specs.CarriedLaws.{carried_on}
 use Rattle.memory.specs.QuietLaws.{quiet-refused, quiet-done, no_run}
 use Rattle.declaration_lines.specs.Lines.{with_tables, with_weights, ForAction, ConstantSays, PredicateSays, TotalSays, DiscountSays, ActionSays}
+use Rattle.std.specs.Prelude.{Err, Ok, Result}
 
 -- ===== Words that have their room still have it, and what is carried over =====
 
@@ -100,21 +99,21 @@ carried-weights {n} {w} total discount x y z = record {
 
 -- ===== (constant n) =====
 
-module _ (s : List ℕ) (n : Numbers) {names names' : List ℕ} {i : ℕ} {x : Next} {k : Key} {d : Declared}
+module _ (s : List ℕ) (n : Numbers) {names names' : List ℕ} {i : ℕ} {x : Next} {k : Key} {d : Result Counts Refusal}
     (p : i ≡ first_word Constant) (q : x ≡ next_at s i) (u : k ≡ key_in x.event) (g : Naming (constant_line (names_of names n.counts) k) names d names') where
   abbrev constant_of : Outcome Names
   constant_of = constant_line (names_of names n.counts) (key_in (word_at (words_of Constant s) 0))
 
-  constant-named : (r : Declared) → d ≡ r → Named constant_of names r names'
+  constant-named : (r : Result Counts Refusal) → d ≡ r → Named constant_of names r names'
   constant-named r e =
       subst (λ y. Named constant_of names y names') e
       (subst (λ y. Named (constant_line (names_of names n.counts) y) names d names') (u ∙ ap key_in (first-is Constant s p q)) g.named)
 
-  pub constant-done : {number : ℕ} {c : Counts} {m : Numbers} → d ≡ Done c → m ≡ with_tables n c n.head
+  pub constant-done : {number : ℕ} {c : Counts} {m : Numbers} → d ≡ Ok c → m ≡ with_tables n c n.head
       → ConstantSays s number n names (record { numbers = m; answer = Nothing }) names'
   unfolding done session_of
   constant-done {number} {c} e f =
-      let h = constant-named (Done c) e in
+      let h = constant-named (Ok c) e in
       subst (λ y. ConstantSays s number n names (record { numbers = y; answer = Nothing }) names') (sym f)
       (record {
         says = λ ar l t st v r.
@@ -123,11 +122,11 @@ module _ (s : List ℕ) (n : Numbers) {names names' : List ℕ} {i : ℕ} {x : N
             r.stored.building refl refl) r.indexed (carried_on refl refl refl);
       })
 
-  pub constant-refused : {number : ℕ} {why : Refusal} → d ≡ Refused why
+  pub constant-refused : {number : ℕ} {why : Refusal} → d ≡ Err why
       → ConstantSays s number n names (record { numbers = n; answer = RefusedAs why number }) names'
   unfolding done session_of
   constant-refused {number} {why} e =
-      let h = constant-named (Refused why) e in
+      let h = constant-named (Err why) e in
       subst (λ y. ConstantSays s number n names (record { numbers = n; answer = RefusedAs why number }) y) (sym h.1)
       (record {
         says = λ ar l t st v r. quiet-refused (with_names (session_of n (memory_of names ar l t st v))) constant_of refl h.0 r.stored r.indexed;
@@ -144,25 +143,25 @@ no-objects {s} {n} {w} r = r.good.quiet (go n.part refl)
     go Model e = e
     go Run e = absurd (no_run refl r e)
 
-module _ (s : List ℕ) (n : Numbers) {names ar names' ar' : List ℕ} {i : ℕ} {x y : Next} {k : Key} {a : ℕ} {d : Declared}
+module _ (s : List ℕ) (n : Numbers) {names ar names' ar' : List ℕ} {i : ℕ} {x y : Next} {k : Key} {a : ℕ} {d : Result Counts Refusal}
     (p : i ≡ first_word Predicate) (q : x ≡ next_at s i) (u : k ≡ key_in x.event) (w : y ≡ next_at s x.place) (z : a ≡ number_in y.event)
     (g : Wording (predicate_line (vocabulary_of names ar n.counts) k a) names ar d names' ar') where
   abbrev predicate_of : Outcome Vocabulary
   predicate_of =
       predicate_line (vocabulary_of names ar n.counts) (key_in (word_at (words_of Predicate s) 0)) (number_in (word_at (words_of Predicate s) 1))
 
-  predicate-worded : (r : Declared) → d ≡ r → Worded predicate_of names ar r names' ar'
+  predicate-worded : (r : Result Counts Refusal) → d ≡ r → Worded predicate_of names ar r names' ar'
   predicate-worded r e =
       subst (λ d₁. Worded predicate_of names ar d₁ names' ar') e
       (subst (λ o. Worded o names ar d names' ar')
       (ap₂ (predicate_line (vocabulary_of names ar n.counts)) (u ∙ ap key_in (first-is Predicate s p q)) (z ∙ ap number_in (second_is Predicate s p q w)))
       g.worded)
 
-  pub predicate-done : {number : ℕ} {c : Counts} {m : Numbers} → d ≡ Done c → m ≡ with_tables n c n.head
+  pub predicate-done : {number : ℕ} {c : Counts} {m : Numbers} → d ≡ Ok c → m ≡ with_tables n c n.head
       → PredicateSays s number n names ar (record { numbers = m; answer = Nothing }) names' ar'
   unfolding done session_of with_vocabulary vocabulary_of
   predicate-done {number} {c} e f =
-      let h = predicate-worded (Done c) e in
+      let h = predicate-worded (Ok c) e in
       subst (λ m. PredicateSays s number n names ar (record { numbers = m; answer = Nothing }) names' ar') (sym f)
       (record {
         says = λ l t st v r.
@@ -171,11 +170,11 @@ module _ (s : List ℕ) (n : Numbers) {names ar names' ar' : List ℕ} {i : ℕ}
             (carried_on refl refl refl);
       })
 
-  pub predicate-refused : {number : ℕ} {why : Refusal} → d ≡ Refused why
+  pub predicate-refused : {number : ℕ} {why : Refusal} → d ≡ Err why
       → PredicateSays s number n names ar (record { numbers = n; answer = RefusedAs why number }) names' ar'
   unfolding done session_of vocabulary_of
   predicate-refused {number} {why} e =
-      let h = predicate-worded (Refused why) e in
+      let h = predicate-worded (Err why) e in
       rw (h.1, h.2)
       (record {
         says = λ l t st v r. quiet-refused (with_vocabulary (session_of n (memory_of names ar l t st v))) predicate_of refl h.0 r.stored r.indexed;
@@ -258,18 +257,18 @@ pub action-keys : {s : List ℕ} {n : Numbers} {names table work : List ℕ} {i 
     → ForAction s n names table work → length (events_of (drop x.place s)) * 2 ≤ length work
 action-keys {s} p q r = let e = ap (λ (y : Next). y.place) (q ∙ ap (next_at s) p) in rw e r.keys
 
-module _ (s : List ℕ) (n : Numbers) {names names' : List ℕ} {i : ℕ} {x : Next} {k : Key} {d : Declared} (p : i ≡ first_word Action) (q : x ≡ next_at s i) (u : k ≡ key_in x.event)
+module _ (s : List ℕ) (n : Numbers) {names names' : List ℕ} {i : ℕ} {x : Next} {k : Key} {d : Result Counts Refusal} (p : i ≡ first_word Action) (q : x ≡ next_at s i) (u : k ≡ key_in x.event)
     (g : Naming (action_line (names_of names n.counts) k (keys_in (events_of (drop x.place s)))) names d names') where
   abbrev action_of : Outcome Names
   action_of = action_line (names_of names n.counts) (key_in (word_at (words_of Action s) 0)) (keys_in (drop 1 (words_of Action s)))
 
-  action-named : (r : Declared) → d ≡ r → Named action_of names r names'
+  action-named : (r : Result Counts Refusal) → d ≡ r → Named action_of names r names'
   action-named r e =
       subst (λ y. Named action_of names y names') e
       (subst (λ o. Named o names d names')
       (ap₂ (λ y es. action_line (names_of names n.counts) y (keys_in es)) (u ∙ ap key_in (first-is Action s p q)) (rest-is Action s p q)) g.named)
 
-  pub action-fits : {table work : List ℕ} {c : Counts} → ForAction s n names table work → d ≡ Done c → ActionRoom table n.head
+  pub action-fits : {table work : List ℕ} {c : Counts} → ForAction s n names table work → d ≡ Ok c → ActionRoom table n.head
   unfolding names_of
   action-fits {table} {work} {c} r e = record {
     spanned = r.spanned;
@@ -277,21 +276,21 @@ module _ (s : List ℕ) (n : Numbers) {names names' : List ℕ} {i : ℕ} {x : N
       arith,
       r.agreeing,
       length-keys names actions_at n.counts.actions,
-      few-actions (names_of names n.counts) (key_in (word_at (words_of Action s) 0)) (keys_in (drop 1 (words_of Action s))) (action-named (Done c) e).0,
+      few-actions (names_of names n.counts) (key_in (word_at (words_of Action s) 0)) (keys_in (drop 1 (words_of Action s))) (action-named (Ok c) e).0,
     );
   }
 
-  pub action-refused : {number : ℕ} {table : List ℕ} {why : Refusal} → d ≡ Refused why
+  pub action-refused : {number : ℕ} {table : List ℕ} {why : Refusal} → d ≡ Err why
       → ActionSays s number n names table (record { numbers = n; answer = RefusedAs why number }) names' table
   unfolding done session_of
   action-refused {number} {table} {why} e =
-      let h = action-named (Refused why) e in
+      let h = action-named (Err why) e in
       subst (λ y. ActionSays s number n names table (record { numbers = n; answer = RefusedAs why number }) y table) (sym h.1)
       (record {
         says = λ ar l st v r. quiet-refused (with_action (session_of n (memory_of names ar l table st v))) action_of refl h.0 r.stored r.indexed;
       })
 
-  module _ {table table' : List ℕ} {c : Counts} {h : Head} (e : d ≡ Done c) (a : ActionAdded table n.head c.parameters table' h) where
+  module _ {table table' : List ℕ} {c : Counts} {h : Head} (e : d ≡ Ok c) (a : ActionAdded table n.head c.parameters table' h) where
     action-session : (ar l st v : List ℕ) → session_of (with_tables n c h) (memory_of names' ar l table' st v)
         ≡ with_action (session_of n (memory_of names ar l table st v)) (names_of names' c)
     unfolding session_of with_action names_of
@@ -313,7 +312,7 @@ module _ (s : List ℕ) (n : Numbers) {names names' : List ℕ} {i : ℕ} {x : N
         → ActionSays s number n names table (record { numbers = m; answer = Nothing }) names' table'
     unfolding done session_of
     action-done {number} f =
-        let y = action-named (Done c) e in
+        let y = action-named (Ok c) e in
         subst (λ m. ActionSays s number n names table (record { numbers = m; answer = Nothing }) names' table') (sym f)
         (record {
           says = λ ar l st v r.

@@ -7,7 +7,7 @@ ghost use Rattle.events.specs.Events.{first_word};
 ghost use Rattle.declaration_lines.specs.Lines.{with_tables, with_weights, ForConstant, ConstantSays, ForPredicate, PredicateSays, TotalSays, DiscountSays, ForAction, ActionSays};
 
 use answers::Answer;
-use declare::{Counts, Declared};
+use declare::Counts;
 use memory::{Numbers, Said};
 use model::Head;
 use refusal::Refusal;
@@ -17,47 +17,23 @@ use text::Kind;
 fn with_tables(n: Numbers, counts: Counts, head: Head) -> Numbers
     ensures { result ≡ with_tables n counts head }
 {
-    let part = n.part;
-    let live = n.live;
-    let held = n.held;
-    Numbers {
-        part: part,
-        total: n.total,
-        discount: n.discount,
-        reward: n.reward,
-        counts: counts,
-        head: head,
-        live: live,
-        held: held,
-    }
+    Numbers { counts, head, ..n }
 }
 
 // The numbers with other marks of single forms, W, G and D.
 fn with_weights(n: Numbers, total: bool, discount: bool, w: u64, g: u64, d: u64) -> Numbers
     ensures { result ≡ with_weights n total discount w g d }
 {
-    let part = n.part;
-    let counts = n.counts;
-    let head = n.head;
-    let live = n.live;
-    let held = n.held;
     Numbers {
-        part: part,
-        total: total,
-        discount: discount,
-        reward: n.reward,
-        counts: counts,
+        total,
+        discount,
         head: Head {
             total: w,
             numerator: g,
             denominator: d,
-            reward_start: head.reward_start,
-            reward_words: head.reward_words,
-            actions: head.actions,
-            words: head.words,
+            ..n.head
         },
-        live: live,
-        held: held,
+        ..n
     }
 }
 
@@ -67,14 +43,13 @@ pub fn constant(line: &[u8], number: u64, n: Numbers, names: &mut [u64]) -> Said
     ensures { ConstantSays line.now number n names.old result names.new }
 {
     let next = events::next_event(line, events::first_word(Kind::Constant));
-    let event = next.event;
-    let key = events::key_in(event);
+    let key = events::key_in(next.event);
     match declare::constant(names, n.counts, key) {
-        Declared::Done(counts) => Said {
+        Ok(counts) => Said {
             numbers: with_tables(n, counts, n.head),
             answer: Answer::Nothing,
         },
-        Declared::Refused(why) => Said {
+        Err(why) => Said {
             numbers: n,
             answer: Answer::Refused(why, number),
         },
@@ -93,17 +68,15 @@ pub fn predicate(
     ensures { PredicateSays line.now number n names.old arities.old result names.new arities.new }
 {
     let first = events::next_event(line, events::first_word(Kind::Predicate));
-    let name = first.event;
-    let key = events::key_in(name);
+    let key = events::key_in(first.event);
     let second = events::next_event(line, first.place);
-    let word = second.event;
-    let arity = events::number_in(word);
+    let arity = events::number_in(second.event);
     match declare::predicate(names, arities, n.counts, key, arity) {
-        Declared::Done(counts) => Said {
+        Ok(counts) => Said {
             numbers: with_tables(n, counts, n.head),
             answer: Answer::Nothing,
         },
-        Declared::Refused(why) => Said {
+        Err(why) => Said {
             numbers: n,
             answer: Answer::Refused(why, number),
         },
@@ -116,12 +89,10 @@ pub fn total(line: &[u8], number: u64, n: Numbers) -> Said
     ensures { TotalSays line.now number n result }
 {
     let next = events::next_event(line, events::first_word(Kind::Total));
-    let event = next.event;
-    let w = events::number_in(event);
+    let w = events::number_in(next.event);
     if declare::is_total(w) {
-        let head = n.head;
         return Said {
-            numbers: with_weights(n, true, n.discount, w, head.numerator, head.denominator),
+            numbers: with_weights(n, true, n.discount, w, n.head.numerator, n.head.denominator),
             answer: Answer::Nothing,
         };
     }
@@ -137,15 +108,12 @@ pub fn discount(line: &[u8], number: u64, n: Numbers) -> Said
     ensures { DiscountSays line.now number n result }
 {
     let first = events::next_event(line, events::first_word(Kind::Discount));
-    let numerator = first.event;
-    let g = events::number_in(numerator);
+    let g = events::number_in(first.event);
     let second = events::next_event(line, first.place);
-    let denominator = second.event;
-    let d = events::number_in(denominator);
+    let d = events::number_in(second.event);
     if declare::is_discount(g, d) {
-        let head = n.head;
         return Said {
-            numbers: with_weights(n, n.total, true, head.total, g, d),
+            numbers: with_weights(n, n.total, true, n.head.total, g, d),
             answer: Answer::Nothing,
         };
     }
@@ -168,17 +136,16 @@ pub fn action(
     ensures { ActionSays line.now number n names.old table.old result names.new table.new }
 {
     let next = events::next_event(line, events::first_word(Kind::Action));
-    let event = next.event;
-    let key = events::key_in(event);
+    let key = events::key_in(next.event);
     match declare::action(names, n.counts, key, line, next.place, work) {
-        Declared::Done(counts) => {
+        Ok(counts) => {
             let head = model_entry::add_action(table, n.head, counts.parameters as u64);
             Said {
                 numbers: with_tables(n, counts, head),
                 answer: Answer::Nothing,
             }
         }
-        Declared::Refused(why) => Said {
+        Err(why) => Said {
             numbers: n,
             answer: Answer::Refused(why, number),
         },

@@ -26,12 +26,10 @@ use Rattle.mdp.specs.Model.{most_actions}
 use Rattle.session.specs.Declaring.{repeated, action_line}
 use Rattle.session.specs.Good.{most_variant_names}
 use Rattle.declare.specs.declared.Counts.{Counts}
-use Rattle.declare.specs.declared.Declared.TheVariants.{Done, Refused}
-use Rattle.declare.specs.declared.Parameters.{Parameters}
-use Rattle.declare.specs.declared.Parameters.TheVariants.{Distinct, Twice}
 use Rattle.declare.specs.Inner.{Naming, Distinguished, ParametersOf, Copied}
 use Rattle.declare.specs.Tables.{names_of, GoodNames}
 use Rattle.declare.proofs.TableLaws.{names-ext}
+use Rattle.std.specs.Prelude.{Err, None, Ok, Option, Some}
 
 -- ===== Reading them =====
 
@@ -81,7 +79,7 @@ module _ (line : List ℕ) (start : ℕ) where
         ∙ length-append (keys_at keys 0 n) (keys_in (events_of (drop place line)))
         ∙ ap₂ (λ (x y : ℕ). x + y) (length-keys keys 0 n) (length-map (events_of (drop place line)) key_in)
 
-    ended : events_of (drop place line) ≡ [] → ParametersOf (keys_in (events_of (drop start line))) (Distinct n) keys
+    ended : events_of (drop place line) ≡ [] → ParametersOf (keys_in (events_of (drop start line))) (Some n) keys
     ended e =
         let f = c.few in
         record {
@@ -92,14 +90,14 @@ module _ (line : List ℕ) (start : ℕ) where
           );
         }
 
-    pub parameters-out : length line ≤ place → ParametersOf (keys_in (events_of (drop start line))) (Distinct n) keys
+    pub parameters-out : length line ≤ place → ParametersOf (keys_in (events_of (drop start line))) (Some n) keys
     parameters-out h = ended (events-short (drop place line) (rw length-drop (omega arith)))
 
     pub parameters-find : 0 + n * 2 ≤ length keys
     parameters-find = omega (arith, c.few)
 
     module _ {x : Next} (q : x ≡ next_at line place) {b : Bool} (p : b ≡ is_end x.event) where
-      pub parameters-end : b ≡ true → ParametersOf (keys_in (events_of (drop start line))) (Distinct n) keys
+      pub parameters-end : b ≡ true → ParametersOf (keys_in (events_of (drop start line))) (Some n) keys
       parameters-end e = ended (next-end line place (ap (λ (y : Next). is_end y.event) (sym q) ∙ sym p ∙ e))
 
       module _ (e : b ≡ false) where
@@ -120,7 +118,7 @@ module _ (line : List ℕ) (start : ℕ) where
             rw q (omega arith)
 
         module _ {k : Key} (w : k ≡ key_in x.event) {i : ℕ} (z : i ≡ place_of k (keys_at keys 0 n)) where
-          pub parameters-twice : i < n → ParametersOf (keys_in (events_of (drop start line))) Twice keys
+          pub parameters-twice : i < n → ParametersOf (keys_in (events_of (drop start line))) None keys
           parameters-twice h = record {
             told =
                 c.so_far ∙ ap (λ (es : List Event). repeated (keys_at keys 0 n) (keys_in es)) after
@@ -207,30 +205,30 @@ keys-behind s base e (suc v) =
     ∙ append_assoc (many (key_at s base) e) (many (key_at s (base + e * 2)) v) (key_at s (base + e * 2) v ∷ [])
 
 module _ (s : List ℕ) (n : Counts) (k : Key) (ps : List Key) where
-  pub action-name : {i : ℕ} → i ≡ place_of k (keys_at s actions_at n.actions) → i < n.actions → Naming (action_line (names_of s n) k ps) s (Refused Name) s
+  pub action-name : {i : ℕ} → i ≡ place_of k (keys_at s actions_at n.actions) → i < n.actions → Naming (action_line (names_of s n) k ps) s (Err Name) s
   unfolding action_line names_of
   action-name p h = record { named = (rw (among-at s actions_at n.actions k p h), refl) }
 
   module _ {i : ℕ} (p : i ≡ place_of k (keys_at s actions_at n.actions)) (h : n.actions ≤ i) where
-    pub action-twice : {t : List ℕ} {q : Parameters} → q ≡ Twice → ParametersOf ps q t → Naming (action_line (names_of s n) k ps) s (Refused Name) s
+    pub action-twice : {t : List ℕ} {q : Option ℕ} → q ≡ None → ParametersOf ps q t → Naming (action_line (names_of s n) k ps) s (Err Name) s
     unfolding action_line names_of
-    action-twice {t} {q} e d = go (subst (λ (x : Parameters). Distinguished ps x t) e d.told)
+    action-twice {t} {q} e d = go (subst (λ (x : Option ℕ). Distinguished ps x t) e d.told)
       where
-        go : repeated [] ps ≡ true → Naming (action_line (names_of s n) k ps) s (Refused Name) s
+        go : repeated [] ps ≡ true → Naming (action_line (names_of s n) k ps) s (Err Name) s
         go z = record { named = (rw (among_none s actions_at n.actions k p h, z), refl) }
 
-    module _ {c : ℕ} {ks : List ℕ} {q : Parameters} (e : q ≡ Distinct c) (d : ParametersOf ps q ks) where
-      distinct : Distinguished ps (Distinct c) ks
-      distinct = subst (λ (x : Parameters). Distinguished ps x ks) e d.told
+    module _ {c : ℕ} {ks : List ℕ} {q : Option ℕ} (e : q ≡ Some c) (d : ParametersOf ps q ks) where
+      distinct : Distinguished ps (Some c) ks
+      distinct = subst (λ (x : Option ℕ). Distinguished ps x ks) e d.told
 
       size : length ps ≡ c
       size = ap length (sym distinct.1) ∙ length-keys ks 0 c
 
-      pub action-parameters : parameter_count < c → Naming (action_line (names_of s n) k ps) s (Refused Space) s
+      pub action-parameters : parameter_count < c → Naming (action_line (names_of s n) k ps) s (Err Space) s
       unfolding action_line names_of
       action-parameters l = record { named = (rw (among_none s actions_at n.actions k p h, distinct.0, size, lt-ltb parameter_count c l), refl) }
 
-      pub action-many : c ≤ parameter_count → most_actions ≤ n.actions → Naming (action_line (names_of s n) k ps) s (Refused Space) s
+      pub action-many : c ≤ parameter_count → most_actions ≤ n.actions → Naming (action_line (names_of s n) k ps) s (Err Space) s
       unfolding action_line names_of
       action-many l m =
           record {
@@ -252,7 +250,7 @@ module _ (s : List ℕ) (n : Counts) (k : Key) (ps : List Key) where
 
       pub action-done : {t u : List ℕ} → GoodNames s n → c ≤ parameter_count → n.actions < most_actions → t ≡ put_key s (actions_at + n.actions * 2) k → Copied ks t u c
           → Naming (action_line (names_of s n) k ps) s
-          (Done (record { constants = n.constants; predicates = n.predicates; actions = n.actions + 1; parameters = c; variants = 0; earlier = n.earlier + n.variants })) u
+          (Ok (record { constants = n.constants; predicates = n.predicates; actions = n.actions + 1; parameters = c; variants = 0; earlier = n.earlier + n.variants })) u
       unfolding action_line names_of
       action-done {t} {u} g l m z y =
           record {

@@ -1,20 +1,20 @@
 -- Laws of the tables of names, one for each way out of a declaration.
-use mathlib.Core.Path.{◌≡◌, refl, sym, ap}
-use mathlib.Core.Bool.{Bool, true, false, ◌&&◌}
+use mathlib.Core.Path.{◌≡◌, refl, sym, ap, ◌∙◌}
+use mathlib.Core.Bool.{Bool, true, false, not, ◌&&◌}
 use mathlib.Core.List.{List, [], ◌∷◌, ◌++◌}
 use Prim.Native.Nat.{ℕ, zero, suc, ◌+◌, ◌*◌, ◌<◌, ◌≤◌}
 use native.Mathlib.Omega.{arith}
-use borrow.Author.Tests.{le-leb, lt-leb, le-ltb, lt-ltb, eqb-true}
+use borrow.Author.Tests.{le-leb, lt-leb, le-ltb, lt-ltb, eqb-true, ltb-true, ltb-false}
 use lib.ListN.{length, get_or, set, length-set}
 use lib.Seq.{get_or-set_other}
-use lib.Dec.{leb, eqb}
-use Rattle.basics.specs.Tests.{and_left, and_right}
+use lib.Dec.{leb, ltb, eqb}
+use Rattle.basics.specs.Tests.{Flag, is_true, is_false, flag, and_left, and_right}
 use Rattle.label.specs.Limits.{predicate_count, most_places, equality, equality_arity, constant_count}
 use Rattle.label.specs.Labels.{all_at_most, are_arities}
 use Rattle.refusal.specs.declared.Refusal.TheVariants.{Name, Range, Space}
 use Rattle.words.specs.declared.Key.{Key}
 use Rattle.names.specs.Inner.{put_key}
-use Rattle.names.specs.Keys.{keys_at, place_of}
+use Rattle.names.specs.Keys.{keys_at, place_of, is_among}
 use Rattle.names.specs.Layout.{constants_at, declared_at, actions_at, parameters_at, variants_at}
 use Rattle.names.specs.KeyLaws.{among-at, among_none, length-keys, keys-same, length-put, put-before, put-behind, keys-more}
 use Rattle.refusal.specs.Outcome.{ok}
@@ -22,27 +22,26 @@ use Rattle.mdp.specs.Model.{most_total, most_denominator}
 use Rattle.session.specs.Session.{Names}
 use Rattle.session.specs.Declaring.{is_declared, constant_line, Vocabulary, predicate_line, is_total, is_discount}
 use Rattle.declare.specs.declared.Counts.{Counts}
-use Rattle.declare.specs.declared.Declared.TheVariants.{Done, Refused}
 use Rattle.declare.specs.Inner.{Naming, vocabulary_of, Wording}
 use Rattle.declare.specs.Tables.{names_of, GoodNames, GoodVocabulary}
+use Rattle.std.specs.Prelude.{Err, Ok}
 
 pub names-ext : (x y : Names) → x.constants ≡ y.constants → x.predicates ≡ y.predicates → x.actions ≡ y.actions → x.parameters ≡ y.parameters
     → x.variants ≡ y.variants → x.earlier ≡ y.earlier → x ≡ y
 names-ext x y a b c d e f = λ i. record { constants = a i; predicates = b i; actions = c i; parameters = d i; variants = e i; earlier = f i }
 
 module _ (s : List ℕ) (n : Counts) (k : Key) {i : ℕ} (p : i ≡ place_of k (keys_at s constants_at n.constants)) where
-  pub declared-constant : i < n.constants → true ≡ is_declared (names_of s n) k
+  pub declared-constant : (h : i < n.constants) → ltb i n.constants ≡ is_declared (names_of s n) k
   unfolding is_declared names_of
-  declared-constant h = rw (among-at s constants_at n.constants k p h)
+  declared-constant h = rw (lt-ltb i n.constants h, among-at s constants_at n.constants k p h)
 
-  module _ {j : ℕ} (q : j ≡ place_of k (keys_at s declared_at n.predicates)) (h : n.constants ≤ i) where
-    pub declared-predicate : j < n.predicates → true ≡ is_declared (names_of s n) k
-    unfolding is_declared names_of
-    declared-predicate l = rw (among_none s constants_at n.constants k p h, among-at s declared_at n.predicates k q l)
-
-    pub declared-none : n.predicates ≤ j → false ≡ is_declared (names_of s n) k
-    unfolding is_declared names_of
-    declared-none l = rw (among_none s constants_at n.constants k p h, among_none s declared_at n.predicates k q l)
+  pub declared-predicate : {j : ℕ} → j ≡ place_of k (keys_at s declared_at n.predicates) → n.constants ≤ i → ltb j n.predicates ≡ is_declared (names_of s n) k
+  unfolding is_declared names_of
+  declared-predicate {j} q h = rw (among_none s constants_at n.constants k p h) (go (flag (ltb j n.predicates)))
+    where
+      go : Flag (ltb j n.predicates) → ltb j n.predicates ≡ is_among k (keys_at s declared_at n.predicates)
+      go (is_true e) = rw (e, among-at s declared_at n.predicates k q (ltb-true j n.predicates e))
+      go (is_false e) = rw (e, among_none s declared_at n.predicates k q (ltb-false j n.predicates e))
 
 -- ===== (constant n) =====
 
@@ -82,18 +81,18 @@ constant-put s n k g h =
     kept base m l = keys-same s (put_key s (constants_at + n.constants * 2) k) base m (put-behind s (constants_at + n.constants * 2) k base (m * 2) l)
 
 module _ (s : List ℕ) (n : Counts) (k : Key) where
-  pub constant-name : {b : Bool} → b ≡ is_declared (names_of s n) k → b ≡ true → Naming (constant_line (names_of s n) k) s (Refused Name) s
+  pub constant-name : {b : Bool} → b ≡ is_declared (names_of s n) k → b ≡ true → Naming (constant_line (names_of s n) k) s (Err Name) s
   unfolding constant_line
   constant-name p e = record { named = (rw (← p, e), refl) }
 
   module _ {b : Bool} (p : b ≡ is_declared (names_of s n) k) (e : b ≡ false) where
-    pub constant-space : constant_count ≤ n.constants → Naming (constant_line (names_of s n) k) s (Refused Space) s
+    pub constant-space : constant_count ≤ n.constants → Naming (constant_line (names_of s n) k) s (Err Space) s
     unfolding constant_line names_of
     constant-space h = record { named = (rw (← p, e, length-keys, le-leb constant_count n.constants h), refl) }
 
     pub constant-done : {t : List ℕ} → GoodNames s n → n.constants < constant_count → t ≡ put_key s (constants_at + n.constants * 2) k
         → Naming (constant_line (names_of s n) k) s
-        (Done (one_constant_more n)) t
+        (Ok (one_constant_more n)) t
     unfolding constant_line names_of
     constant-done g h q = rw q (record { named = (rw (← p, e, length-keys, lt-leb constant_count n.constants h) (ap ok (sym (constant-put s n k g h))), good) })
       where
@@ -169,23 +168,23 @@ vocabulary-ext : (x y : Vocabulary) → x.names ≡ y.names → x.arities ≡ y.
 vocabulary-ext x y a b = λ i. record { names = a i; arities = b i }
 
 module _ (s ar : List ℕ) (n : Counts) (k : Key) (a : ℕ) where
-  pub predicate-name : {b : Bool} → b ≡ is_declared (names_of s n) k → b ≡ true → Wording (predicate_line (vocabulary_of s ar n) k a) s ar (Refused Name) s ar
+  pub predicate-name : {b : Bool} → b ≡ is_declared (names_of s n) k → b ≡ true → Wording (predicate_line (vocabulary_of s ar n) k a) s ar (Err Name) s ar
   unfolding predicate_line vocabulary_of
   predicate-name p e = record { worded = (rw (← p, e), refl, refl) }
 
   module _ {b : Bool} (p : b ≡ is_declared (names_of s n) k) (e : b ≡ false) where
-    pub predicate-range : most_places < a → Wording (predicate_line (vocabulary_of s ar n) k a) s ar (Refused Range) s ar
+    pub predicate-range : most_places < a → Wording (predicate_line (vocabulary_of s ar n) k a) s ar (Err Range) s ar
     unfolding predicate_line vocabulary_of
     predicate-range h = record { worded = (rw (← p, e, lt-ltb most_places a h), refl, refl) }
 
-    pub predicate-space : a ≤ most_places → predicate_count ≤ n.predicates + 1 → Wording (predicate_line (vocabulary_of s ar n) k a) s ar (Refused Space) s ar
+    pub predicate-space : a ≤ most_places → predicate_count ≤ n.predicates + 1 → Wording (predicate_line (vocabulary_of s ar n) k a) s ar (Err Space) s ar
     unfolding predicate_line vocabulary_of names_of
     predicate-space f h = record { worded = (rw (← p, e, le-ltb most_places a f, length-keys, le-leb predicate_count (suc n.predicates) (omega arith)), refl, refl) }
 
     pub predicate-done : {t br : List ℕ} → GoodVocabulary s ar n → a ≤ most_places → n.predicates + 1 < predicate_count → t ≡ put_key s (declared_at + n.predicates * 2) k
         → br ≡ set ar (n.predicates + 1) a
         → Wording (predicate_line (vocabulary_of s ar n) k a) s ar
-        (Done (one_predicate_more n)) t br
+        (Ok (one_predicate_more n)) t br
     unfolding predicate_line vocabulary_of names_of
     predicate-done g f h q u = rw (q, u) (record { worded = (rw (← p, e, le-ltb most_places a f, length-keys, lt-leb predicate_count (suc n.predicates) (omega arith)) (ap ok (sym same)), good) })
       where
@@ -223,7 +222,7 @@ arity-room s ar n g h = let e = eqb-true (length ar) predicate_count (and_left (
 
 -- ===== (total W) and (discount G D) =====
 
-pub total-none : (w : ℕ) → w ≡ 0 → false ≡ is_total w
+pub total-none : (w : ℕ) → w ≡ 0 → not (eqb w 0) ≡ is_total w
 unfolding is_total
 total-none w e = rw e
 
@@ -231,13 +230,13 @@ pub total-some : (w : ℕ) → (w ≡ 0 → ⊥) → leb w most_total ≡ is_tot
 unfolding is_total
 total-some w e = rw (le-leb 1 w (omega (arith, e)))
 
-pub discount-none : (g d : ℕ) → d ≡ 0 → false ≡ is_discount g d
+pub discount-none : (g d : ℕ) {b : Bool} → d ≡ 0 → b ≡ not (eqb d 0) → b ≡ is_discount g d
 unfolding is_discount
-discount-none g d e = rw e
+discount-none g d e p = p ∙ rw e
 
-pub discount-over : (g d : ℕ) → (d ≡ 0 → ⊥) → most_denominator < d → false ≡ is_discount g d
+pub discount-over : (g d : ℕ) {b : Bool} → (d ≡ 0 → ⊥) → most_denominator < d → b ≡ leb d most_denominator → b ≡ is_discount g d
 unfolding is_discount
-discount-over g d e h = rw (le-leb 1 d (omega (arith, e)), lt-leb d most_denominator h)
+discount-over g d e h p = rw (p, le-leb 1 d (omega (arith, e)), lt-leb d most_denominator h)
 
 pub discount-some : (g d : ℕ) → (d ≡ 0 → ⊥) → d ≤ most_denominator → leb g d ≡ is_discount g d
 unfolding is_discount

@@ -25,48 +25,30 @@ pub struct Counts {
     pub earlier: usize,
 }
 
-// What a declaration answers: how many names there are then, or why it is refused.
-#[derive(Clone, Copy)]
-pub enum Declared {
-    Done(Counts),
-    Refused(Refusal),
-}
-
 // Whether a constant or a predicate has the name.
 pub fn is_declared(table: &[u64], n: Counts, key: Key) -> bool
     requires { GoodNames table.now n }
     ensures { result ≡ is_declared (names_of table.now n) key }
 {
-    let i = names::find(table, names::CONSTANTS, n.constants, key);
-    if i < n.constants {
-        return true;
-    }
-    let j = names::find(table, names::DECLARED, n.predicates, key);
-    if j < n.predicates {
-        return true;
-    }
-    false
+    names::find(table, names::CONSTANTS, n.constants, key) < n.constants
+        || names::find(table, names::DECLARED, n.predicates, key) < n.predicates
 }
 
 // (constant n)
-pub fn constant(table: &mut [u64], n: Counts, key: Key) -> Declared
+pub fn constant(table: &mut [u64], n: Counts, key: Key) -> Result<Counts, Refusal>
     requires { GoodNames table.old n }
     ensures { Naming (constant_line (names_of table.old n) key) table.old result table.new }
 {
     if is_declared(table, n, key) {
-        return Declared::Refused(Refusal::Name);
+        return Err(Refusal::Name);
     }
     if n.constants >= (Term::CONSTANTS as usize) {
-        return Declared::Refused(Refusal::Space);
+        return Err(Refusal::Space);
     }
     names::put(table, names::CONSTANTS + n.constants * 2, key);
-    Declared::Done(Counts {
+    Ok(Counts {
         constants: n.constants + 1,
-        predicates: n.predicates,
-        actions: n.actions,
-        parameters: n.parameters,
-        variants: n.variants,
-        earlier: n.earlier,
+        ..n
     })
 }
 
@@ -77,40 +59,29 @@ pub fn predicate(
     n: Counts,
     key: Key,
     arity: u64,
-) -> Declared
+) -> Result<Counts, Refusal>
     requires { GoodVocabulary table.old arities.old n }
     ensures { Wording (predicate_line (vocabulary_of table.old arities.old n) key arity) table.old arities.old result table.new arities.new }
 {
     if is_declared(table, n, key) {
-        return Declared::Refused(Refusal::Name);
+        return Err(Refusal::Name);
     }
     if arity > Label::PLACES {
-        return Declared::Refused(Refusal::Range);
+        return Err(Refusal::Range);
     }
     if n.predicates + 1 >= Label::PREDICATES {
-        return Declared::Refused(Refusal::Space);
+        return Err(Refusal::Space);
     }
     names::put(table, names::DECLARED + n.predicates * 2, key);
     arities[n.predicates + 1] = arity;
-    Declared::Done(Counts {
-        constants: n.constants,
+    Ok(Counts {
         predicates: n.predicates + 1,
-        actions: n.actions,
-        parameters: n.parameters,
-        variants: n.variants,
-        earlier: n.earlier,
+        ..n
     })
 }
 
-// The parameters of an action: how many, all different, or one given twice.
-#[derive(Clone, Copy)]
-pub enum Parameters {
-    Distinct(usize),
-    Twice,
-}
-
-// The names from the place `at` on, as keys.
-fn read_parameters(line: &[u8], at: usize, keys: &mut [u64]) -> Parameters
+// The names from the place `at` on, as keys: how many, all different; None where one is given twice.
+fn read_parameters(line: &[u8], at: usize, keys: &mut [u64]) -> Option<usize>
     requires at_in_bounds { at ≤ length line.now }
     requires line_in_bounds { length (events_of (drop at line.now)) * 2 ≤ length keys.old }
     ensures { ParametersOf (keys_in (events_of (drop at line.now))) result keys.new }
@@ -121,17 +92,17 @@ fn read_parameters(line: &[u8], at: usize, keys: &mut [u64]) -> Parameters
         let next = events::next_event(line, place);
         let event = next.event;
         if events::is_end(event) {
-            return Parameters::Distinct(n);
+            return Some(n);
         }
         let key = events::key_in(event);
         if names::find(keys, 0, n, key) < n {
-            return Parameters::Twice;
+            return None;
         }
         names::put(keys, n * 2, key);
         n += 1;
         place = next.place;
     }
-    Parameters::Distinct(n)
+    Some(n)
 }
 
 // Writes the first n keys as the last action's parameters.
@@ -141,11 +112,9 @@ fn copy_parameters(keys: &[u64], n: usize, table: &mut [u64])
     requires name_words_in_bounds { name_words ≤ length table.old }
     ensures { Copied keys.now table.old table.new n }
 {
-    let mut i = 0;
-    while i < n {
+    for i in 0..n {
         let key = names::key_at(keys, 0, i);
         names::put(table, names::PARAMETERS + i * 2, key);
-        i += 1;
     }
 }
 
@@ -157,33 +126,30 @@ pub fn action(
     line: &[u8],
     at: usize,
     keys: &mut [u64],
-) -> Declared
+) -> Result<Counts, Refusal>
     requires good_names { GoodNames table.old n }
     requires at_in_bounds { at ≤ length line.now }
     requires line_in_bounds { length (events_of (drop at line.now)) * 2 ≤ length keys.old }
     ensures { Naming (action_line (names_of table.old n) key (keys_in (events_of (drop at line.now)))) table.old result table.new }
 {
     if names::find(table, names::ACTIONS, n.actions, key) < n.actions {
-        return Declared::Refused(Refusal::Name);
+        return Err(Refusal::Name);
     }
-    let Parameters::Distinct(count) = read_parameters(line, at, keys) else {
-        return Declared::Refused(Refusal::Name);
-    };
+    let count = read_parameters(line, at, keys).ok_or(Refusal::Name)?;
     if count > (Term::PARAMETERS as usize) {
-        return Declared::Refused(Refusal::Space);
+        return Err(Refusal::Space);
     }
     if n.actions >= model::ACTIONS {
-        return Declared::Refused(Refusal::Space);
+        return Err(Refusal::Space);
     }
     names::put(table, names::ACTIONS + n.actions * 2, key);
     copy_parameters(keys, count, table);
-    Declared::Done(Counts {
-        constants: n.constants,
-        predicates: n.predicates,
+    Ok(Counts {
         actions: n.actions + 1,
         parameters: count,
         variants: 0,
         earlier: n.earlier + n.variants,
+        ..n
     })
 }
 
@@ -191,21 +157,12 @@ pub fn action(
 pub fn is_total(w: u64) -> bool
     ensures { result ≡ is_total w }
 {
-    if w == 0 {
-        return false;
-    }
-    w <= model::TOTAL
+    w != 0 && w <= model::TOTAL
 }
 
 // Whether g / d may be the discount.
 pub fn is_discount(g: u64, d: u64) -> bool
     ensures { result ≡ is_discount g d }
 {
-    if d == 0 {
-        return false;
-    }
-    if d > model::DENOMINATOR {
-        return false;
-    }
-    g <= d
+    d != 0 && d <= model::DENOMINATOR && g <= d
 }

@@ -32,8 +32,6 @@ use Rattle.session.specs.Texts.{table_of}
 use Rattle.declare.specs.Tables.{names_of}
 use Rattle.facts.specs.Words.{live_of}
 use Rattle.model.specs.Layout.{model_of}
-use Rattle.count_states.specs.declared.Counted.{Counted}
-use Rattle.count_states.specs.declared.Counted.TheVariants.{Lines, Refused}
 use Rattle.count_states.specs.Counted.{counted_as, Counts}
 use Rattle.memory.specs.declared.Numbers.{Numbers}
 use Rattle.memory.specs.Inner.{Ready, Answers, Shown}
@@ -43,6 +41,7 @@ use Rattle.memory.specs.WordLaws.{first-is}
 use Rattle.memory.specs.RunLaws.{run-holding}
 use Rattle.desk_lines.specs.Lines.{CountTask, CountAnswered}
 use Rattle.desk_lines.specs.Counting.{spread_read, Spreadable}
+use Rattle.std.specs.Prelude.{Err, Ok, Result}
 
 -- ===== What is lent =====
 
@@ -95,11 +94,11 @@ module _ (σ : Session) (objects : ℕ) where
 -- ===== What the line is answered =====
 
 module _ (σ : Session) (number objects : ℕ) where
-  lines-says : (o : Outcome (List Entry)) {m : ℕ} → counted_as o ≡ Lines m → A.Count objects m ≡ (count_says σ number objects o).answer
+  lines-says : (o : Outcome (List Entry)) {m : ℕ} → counted_as o ≡ Ok m → A.Count objects m ≡ (count_says σ number objects o).answer
   lines-says (ok es) e = ap (A.Count objects) (cc)
   lines-says (refused x) e = let z : ◌≡◌ {A = ℕ} 0 1 = cc in absurd (omega arith)
 
-  refused_says : (o : Outcome (List Entry)) {x : Refusal} → counted_as o ≡ Refused x → A.Refused x number ≡ (count_says σ number objects o).answer
+  refused_says : (o : Outcome (List Entry)) {x : Refusal} → counted_as o ≡ Err x → A.Refused x number ≡ (count_says σ number objects o).answer
   refused_says (ok es) e = let z : ◌≡◌ {A = ℕ} 0 1 = cc in absurd (omega arith)
   refused_says (refused y) {x} e = let z : x ≡ y = cc in ap (λ (r : Refusal). A.Refused r number) z
 
@@ -114,7 +113,7 @@ module _ (σ : Session) (number objects : ℕ) where
   shown-says (ok es) table e h = subst (λ (x : List Entry). take (length (entry_words x)) table ≡ entry_words x) (sym (entries-are σ objects e)) (h es refl)
   shown-says (refused x) table e h = refl
 
-module _ (s : List ℕ) (number : ℕ) (n : Numbers) (ar state value : List ℕ) {i objects : ℕ} {x : Next} {q : Counted} {table : List ℕ}
+module _ (s : List ℕ) (number : ℕ) (n : Numbers) (ar state value : List ℕ) {i objects : ℕ} {x : Next} {q : Result ℕ Refusal} {table : List ℕ}
     (p : i ≡ first_word K.Count) (e : x ≡ next_at s i) (u : objects ≡ number_in x.event)
     (c : Counts (spread_read ar n.counts.predicates objects (take constant_count state) (take (n.held.rows * 3) value)) q table) where
   -- whatever the words are that are not lent
@@ -145,14 +144,14 @@ module _ (s : List ℕ) (number : ℕ) (n : Numbers) (ar state value : List ℕ)
           carried = carried_same n (memory_of names ar listings tables state value);
         }
 
-    lines-answers : {m : ℕ} → q ≡ Lines m
+    lines-answers : {m : ℕ} → q ≡ Ok m
         → Answers K.Count s number n (memory_of names ar listings tables state value) (record { numbers = n; answer = A.Count objects m })
         (memory_of names ar listings tables state value)
     lines-answers f =
         let σ = session_of n (memory_of names ar listings tables state value) in
         answers (lines-says σ number objects (read σ objects) (sym counted.answer ∙ f))
 
-    refused-answers : {why : Refusal} → q ≡ Refused why
+    refused-answers : {why : Refusal} → q ≡ Err why
         → Answers K.Count s number n (memory_of names ar listings tables state value) (record { numbers = n; answer = A.Refused why number })
         (memory_of names ar listings tables state value)
     refused-answers f =
@@ -164,8 +163,8 @@ module _ (s : List ℕ) (number : ℕ) (n : Numbers) (ar state value : List ℕ)
         let σ = session_of n (memory_of names ar listings tables state value) in
         subst (λ (y : Reply). Shown y table) (sym done-is) (shown-says σ number objects (read σ objects) table refl counted.lines)
 
-  pub count-lines : {m : ℕ} → q ≡ Lines m → CountAnswered s number n ar state value (record { numbers = n; answer = A.Count objects m }) table
+  pub count-lines : {m : ℕ} → q ≡ Ok m → CountAnswered s number n ar state value (record { numbers = n; answer = A.Count objects m }) table
   count-lines f = record { says = λ names listings tables r. lines-answers names listings tables r f; shows = λ names listings tables r. shows names listings tables r }
 
-  pub count-refused : {why : Refusal} → q ≡ Refused why → CountAnswered s number n ar state value (record { numbers = n; answer = A.Refused why number }) table
+  pub count-refused : {why : Refusal} → q ≡ Err why → CountAnswered s number n ar state value (record { numbers = n; answer = A.Refused why number }) table
   count-refused f = record { says = λ names listings tables r. refused-answers names listings tables r f; shows = λ names listings tables r. shows names listings tables r }

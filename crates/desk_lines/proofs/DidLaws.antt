@@ -28,8 +28,6 @@ use Rattle.session.specs.Replaying.{replay_in, replayed, did_to, did_line}
 use Rattle.session.specs.Replies.{Reply, did_says, done, words_of}
 use Rattle.declare.specs.Tables.{names_of}
 use Rattle.facts.specs.declared.Live.{Live}
-use Rattle.facts.specs.declared.Told.{Told}
-use Rattle.facts.specs.declared.Told.TheVariants.{Done, Refused}
 use Rattle.facts.specs.declared.Tuple.{Tuple}
 use Rattle.facts.specs.Inner.{Unindexed, Rowed, Lives, Living, TupleOf}
 use Rattle.facts.specs.Words.{placed_base, facts_base, index_base, index_words, state_words, part, live_of, GoodLive}
@@ -38,8 +36,6 @@ use Rattle.facts.specs.PartLaws.{length_part, part_at, part-lent, same-before, p
 use Rattle.model.specs.declared.Head.{Head}
 use Rattle.model.specs.Layout.{model_of}
 use Rattle.best_move.proofs.ActionLaws.{laid-task, task-few}
-use Rattle.replay_step.specs.declared.Stepped.{Stepped}
-use Rattle.replay_step.specs.declared.Stepped.TheVariants as S
 use Rattle.replay_step.specs.Stepped.{lent_did, lent_step, StepTask, Steps}
 use Rattle.memory.specs.declared.Numbers.{Numbers}
 use Rattle.memory.specs.declared.Said.{Said}
@@ -48,10 +44,9 @@ use Rattle.memory.specs.Memory.{memory_of, session_of}
 use Rattle.memory.specs.CarriedLaws.{carried_same, carried_on}
 use Rattle.memory.specs.StoredLaws.{stored-state}
 use Rattle.memory.specs.WordLaws.{next-drops, first-is, second_is, rest-is}
-use Rattle.desk_lines.specs.declared.Found.{Found}
-use Rattle.desk_lines.specs.declared.Found.TheVariants as F
 use Rattle.desk_lines.specs.Lines.{LogTask, DidAnswered}
 use Rattle.desk_lines.specs.Doing.{Fits, Findable, Finding, Movable, StepsIn, moved}
+use Rattle.std.specs.Prelude.{Err, Ok, Result}
 
 -- ===== The state moved =====
 
@@ -121,7 +116,7 @@ module _ {ar listings table : List ℕ} {h : Head} {a v : ℕ} {os state : List 
           room = r;
         })
 
-    pub step-hand : {r : Stepped} {rows : List ℕ}
+    pub step-hand : {r : Result (ℕ × ℕ × ℕ) Refusal} {rows : List ℕ}
         → Steps (lent_step ar listings table h a v l.objects (take constant_count state) ps l.count l.total os) l.objects (take constant_count state) r rows
         → StepsIn ar listings table h a v os state l r rows
     unfolding replay_in live_of
@@ -131,19 +126,19 @@ module _ {ar listings table : List ℕ} {h : Head} {a v : ℕ} {os state : List 
           l.objects (take constant_count state) r rows) f s;
     }
 
-  module _ {r : Stepped} {rows : List ℕ} (s : StepsIn ar listings table h a v os state l r rows) where
+  module _ {r : Result (ℕ × ℕ × ℕ) Refusal} {rows : List ℕ} (s : StepsIn ar listings table h a v os state l r rows) where
     -- the answer is known
-    steps-as : {q : Stepped} → r ≡ q → StepsIn ar listings table h a v os state l q rows
-    steps-as e = subst (λ (z : Stepped). StepsIn ar listings table h a v os state l z rows) e s
+    steps-as : {q : Result (ℕ × ℕ × ℕ) Refusal} → r ≡ q → StepsIn ar listings table h a v os state l q rows
+    steps-as e = subst (λ (z : Result (ℕ × ℕ × ℕ) Refusal). StepsIn ar listings table h a v os state l z rows) e s
 
-    pub rows_few : {m c t : ℕ} → r ≡ S.Done m c t → m ≤ most_facts
+    pub rows_few : {m c t : ℕ} → r ≡ Ok (m, c, t) → m ≤ most_facts
     rows_few e = (steps-as e).steps.few
 
-    pub rows-room : {m c t : ℕ} → r ≡ S.Done m c t → m * fact_words ≤ length rows
+    pub rows-room : {m c t : ℕ} → r ≡ Ok (m, c, t) → m * fact_words ≤ length rows
     rows-room e = (steps-as e).steps.room
 
     -- the index has no rows, then the rows are copied to the facts
-    module _ {s₁ : List ℕ} (u : Unindexed state s₁) {m c t : ℕ} (e : r ≡ S.Done m c t) where
+    module _ {s₁ : List ℕ} (u : Unindexed state s₁) {m c t : ℕ} (e : r ≡ Ok (m, c, t)) where
       pub facts-room : facts_base + m * fact_words ≤ length s₁
       facts-room = omega (arith, rows_few e, u.stays.size, x.live.room)
 
@@ -154,7 +149,7 @@ module _ {ar listings table : List ℕ} {h : Head} {a v : ℕ} {os state : List 
         pub moved-clean : Clean (part s₂ index_base index_words)
         moved-clean = subst (λ (z : List ℕ). Clean (part z index_base index_words)) (sym y) (copied-clean x.live u (rows_few e) rows (rows-room e))
 
-        pub replay-done : {s₃ : List ℕ} → Rowed ar s₂ m s₃ → Living ar (did_to M (live_of state l) (lent_did a v os)) state (Done (live_with l m c t)) s₃
+        pub replay-done : {s₃ : List ℕ} → Rowed ar s₂ m s₃ → Living ar (did_to M (live_of state l) (lent_did a v os)) state (Ok (live_with l m c t)) s₃
         unfolding did_to
         replay-done {s₃} i =
             let q = (steps-as e).steps in
@@ -170,7 +165,7 @@ module _ {ar listings table : List ℕ} {h : Head} {a v : ℕ} {os state : List 
               );
             }
 
-    pub replay-refused : {why : Refusal} → r ≡ S.Refused why → Living ar (did_to M (live_of state l) (lent_did a v os)) state (Refused why) state
+    pub replay-refused : {why : Refusal} → r ≡ Err why → Living ar (did_to M (live_of state l) (lent_did a v os)) state (Err why) state
     unfolding did_to
     replay-refused e = record { lives = (ap (λ (o : Outcome Replay). and_then o (λ r. ok (replayed (live_of state l) r))) (steps-as e).steps, refl) }
 
@@ -193,20 +188,20 @@ log-findable t = record {
 }
 
 module _ {n : Numbers} {names ar listings table state : List ℕ} (t : LogTask n names ar listings table state) {os row : List ℕ} {o : Tuple}
-    (w : TupleOf n.live.objects os o row) {k v : Key} {r : Found} (g : Finding names table n.counts k v o r) where
+    (w : TupleOf n.live.objects os o row) {k v : Key} {r : Result (ℕ × ℕ) Refusal} (g : Finding names table n.counts k v o r) where
   abbrev Line : Outcome SessionLive
   Line = did_line (model_of ar listings table n.head) (names_of names n.counts) (live_of state n.live) k v os
 
   -- what is found, in the state in hand
-  found-is : {q : Found} → r ≡ q → Finding names table n.counts k v o q
+  found-is : {q : Result (ℕ × ℕ) Refusal} → r ≡ q → Finding names table n.counts k v o q
   found-is e = subst (Finding names table n.counts k v o) e g
 
-  pub carry-refused : {why : Refusal} → r ≡ F.Refused why → Living ar Line state (Refused why) state
+  pub carry-refused : {why : Refusal} → r ≡ Err why → Living ar Line state (Err why) state
   unfolding live_of
   carry-refused e = record { lives = ((found-is e).found ar listings n.head (live_of state n.live) os row t.agreed w, refl) }
 
-  module _ {a b : ℕ} (e : r ≡ F.At a b) where
-    fits_in : Fits table n.counts.actions o (F.At a b)
+  module _ {a b : ℕ} (e : r ≡ Ok (a, b)) where
+    fits_in : Fits table n.counts.actions o (Ok (a, b))
     fits_in = (found-is e).fits
 
     action-low : a < n.head.actions
@@ -240,7 +235,7 @@ module _ {n : Numbers} {names ar listings table state : List ℕ} (t : LogTask n
           objects = sym w.within ∙ fits_in.3;
         })
 
-    pub carry-done : {q : Told} {state' : List ℕ} → Living ar (did_to (model_of ar listings table n.head) (live_of state n.live) (lent_did a b lent)) state q state'
+    pub carry-done : {q : Result Live Refusal} {state' : List ℕ} → Living ar (did_to (model_of ar listings table n.head) (live_of state n.live) (lent_did a b lent)) state q state'
         → Living ar Line state q state'
     unfolding live_of
     carry-done {q} {state'} d =
@@ -261,7 +256,7 @@ two-behind (e ∷ f ∷ es) = refl
 pub third-in : (s : List ℕ) {i : ℕ} {y : Next} → i ≤ length s → y ≡ next_at s i → y.place ≤ length s
 third-in s {i} h e = omega (arith, ap (λ (z : Next). z.place) e, (next-moves s i h).0)
 
-module _ (s : List ℕ) (number : ℕ) (n : Numbers) (names ar ls tb : List ℕ) {st st' : List ℕ} {i : ℕ} {x y : Next} {k v : Key} {d : Told}
+module _ (s : List ℕ) (number : ℕ) (n : Numbers) (names ar ls tb : List ℕ) {st st' : List ℕ} {i : ℕ} {x y : Next} {k v : Key} {d : Result Live Refusal}
     (p : i ≡ first_word K.Did) (q : x ≡ next_at s i) (u : k ≡ key_in x.event) (w : y ≡ next_at s x.place) (z : v ≡ key_in y.event)
     (g : Living ar (did_line (model_of ar ls tb n.head) (names_of names n.counts) (live_of st n.live) k v (numbers_in (events_of (drop y.place s)))) st d st') where
   abbrev L : Key → Key → List Event → Outcome SessionLive
@@ -276,9 +271,9 @@ module _ (s : List ℕ) (number : ℕ) (n : Numbers) (names ar ls tb : List ℕ)
       ap (λ (es : List Event). L k v es) words_are
       ∙ ap₂ (λ (a b : Key). L a b (drop 2 (words_of K.Did s))) (u ∙ ap key_in (first-is K.Did s p q)) (z ∙ ap key_in (second_is K.Did s p q w))
 
-  lives-as : {r : Told} → d ≡ r → Lives ar (L (key_in (word_at (words_of K.Did s) 0)) (key_in (word_at (words_of K.Did s) 1)) (drop 2 (words_of K.Did s))) st r st'
+  lives-as : {r : Result Live Refusal} → d ≡ r → Lives ar (L (key_in (word_at (words_of K.Did s) 0)) (key_in (word_at (words_of K.Did s) 1)) (drop 2 (words_of K.Did s))) st r st'
   lives-as {r} e =
-      subst (λ (o : Outcome SessionLive). Lives ar o st r st') line-is (subst (λ (t : Told). Lives ar (L k v (events_of (drop y.place s))) st t st') e g.lives)
+      subst (λ (o : Outcome SessionLive). Lives ar o st r st') line-is (subst (λ (t : Result Live Refusal). Lives ar (L k v (events_of (drop y.place s))) st t st') e g.lives)
 
   done-as : (value : List ℕ) {o : Outcome SessionLive}
       → L (key_in (word_at (words_of K.Did s) 0)) (key_in (word_at (words_of K.Did s) 1)) (drop 2 (words_of K.Did s)) ≡ o
@@ -291,7 +286,7 @@ module _ (s : List ℕ) (number : ℕ) (n : Numbers) (names ar ls tb : List ℕ)
   unfolding session_of
   session-moved value l = refl
 
-  pub did-done : {l : Live} → d ≡ Done l → {m : Said} → m ≡ moved n l → DidAnswered s number n names ar ls tb st m st'
+  pub did-done : {l : Live} → d ≡ Ok l → {m : Said} → m ≡ moved n l → DidAnswered s number n names ar ls tb st m st'
   unfolding live_of
   did-done {l} e {m} f =
       subst (λ (a : Said). DidAnswered s number n names ar ls tb st a st') (sym f)
@@ -308,7 +303,7 @@ module _ (s : List ℕ) (number : ℕ) (n : Numbers) (names ar ls tb : List ℕ)
             };
       })
 
-  pub did-refused : {why : Refusal} → d ≡ Refused why → DidAnswered s number n names ar ls tb st (record { numbers = n; answer = A.Refused why number }) st'
+  pub did-refused : {why : Refusal} → d ≡ Err why → DidAnswered s number n names ar ls tb st (record { numbers = n; answer = A.Refused why number }) st'
   did-refused {why} e = record {
     says = λ value r.
         let h = lives-as e in

@@ -22,10 +22,10 @@ use Rattle.model.specs.Layout.{action_words, variants_of, action_at, model_of}
 use Rattle.model_entry.specs.Inner.{FewVariants}
 use Rattle.model_entry.specs.Building.{variants_before}
 use Rattle.model_entry.specs.NameLaws.{before-few, variant-names}
-use Rattle.desk_lines.specs.declared.Found.TheVariants.{At, Refused}
 use Rattle.desk_lines.specs.Lines.{Agreed}
 use Rattle.desk_lines.specs.Doing.{variant_keys, Findable, Finding}
 use Rattle.desk_lines.proofs.LineLaws.{line-name, line-count, line-variant, line-range, line-found}
+use Rattle.std.specs.Prelude.{Err, Ok}
 
 -- ===== Room =====
 
@@ -47,7 +47,7 @@ variant_found names table a k p q e = e ∙ ap₂ (λ (x y : ℕ). place_of k (k
 -- ===== Ways out =====
 
 module _ (names table : List ℕ) (n : Counts) (k v : Key) (o : Tuple) {a : ℕ} (p : a ≡ place_of k (keys_at names actions_at n.actions)) where
-  pub find-name : n.actions ≤ a → Finding names table n k v o (Refused Name)
+  pub find-name : n.actions ≤ a → Finding names table n k v o (Err Name)
   unfolding names_of
   find-name h = record {
     fits = tt;
@@ -64,7 +64,7 @@ module _ (names table : List ℕ) (n : Counts) (k v : Key) (o : Tuple) {a : ℕ}
       unfolding model_of names_of
       names-are = variant-names names listings table (names_of names n) n.earlier n.variants hd.actions a refl refl g.variants (omega (arith, g.actions))
 
-    pub find-count : (o.count ≡ get_or table (a * action_words) 0 → ⊥) → Finding names table n k v o (Refused Arity)
+    pub find-count : (o.count ≡ get_or table (a * action_words) 0 → ⊥) → Finding names table n k v o (Err Arity)
     unfolding names_of
     find-count f = record {
       fits = tt;
@@ -74,7 +74,7 @@ module _ (names table : List ℕ) (n : Counts) (k v : Key) (o : Tuple) {a : ℕ}
     }
 
     module _ (e : o.count ≡ get_or table (a * action_words) 0) {b : ℕ} (q : b ≡ place_of v (variant_keys names table a)) where
-      pub find-variant : variants_of table a ≤ b → Finding names table n k v o (Refused Name)
+      pub find-variant : variants_of table a ≤ b → Finding names table n k v o (Err Name)
       unfolding names_of
       find-variant i = record {
         fits = tt;
@@ -84,7 +84,7 @@ module _ (names table : List ℕ) (n : Counts) (k v : Key) (o : Tuple) {a : ℕ}
       }
 
       module _ (i : b < variants_of table a) where
-        pub find-range : o.within ≡ false → Finding names table n k v o (Refused Range)
+        pub find-range : o.within ≡ false → Finding names table n k v o (Err Range)
         unfolding names_of
         find-range f = record {
           fits = tt;
@@ -93,7 +93,7 @@ module _ (names table : List ℕ) (n : Counts) (k v : Key) (o : Tuple) {a : ℕ}
               (names-are ar listings hd g) (sym w.count ∙ e) (among-at names (variants_at + variants_before table a * 2) (variants_of table a) v q i) (sym w.within ∙ f);
         }
 
-        pub find-done : o.within ≡ true → Finding names table n k v o (At a b)
+        pub find-done : o.within ≡ true → Finding names table n k v o (Ok (a, b))
         unfolding names_of
         find-done f = record {
           fits = (h, i, e, f);

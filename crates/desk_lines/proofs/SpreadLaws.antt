@@ -12,13 +12,13 @@ use Rattle.refusal.specs.Outcome.{Outcome, refused}
 use Rattle.state.specs.Lent.{constants_below, is_state, most_objects}
 use Rattle.spread.specs.Spread.{Entry, spread}
 use Rattle.session.specs.Session.{refuse_if}
-use Rattle.count_states.specs.declared.Counted.{Counted}
-use Rattle.count_states.specs.declared.Counted.TheVariants.{Refused}
 use Rattle.count_states.specs.Counted.{counted_as, Countable, Counts}
 use Rattle.desk_lines.specs.Counting.{spread_read, Spreadable}
+use Rattle.refusal.specs.declared.Refusal.{Refusal}
+use Rattle.std.specs.Prelude.{Err, Result}
 
 -- a refusal, whatever stands in the table
-refused-counts : {o : Outcome (List Entry)} (table : List ℕ) → o ≡ refused Range → Counts o (Refused Range) table
+refused-counts : {o : Outcome (List Entry)} (table : List ℕ) → o ≡ refused Range → Counts o (Err Range) table
 refused-counts table e = record {
   answer = sym (ap counted_as e);
   lines = λ es f. let z = sym e ∙ f in let o : ◌≡◌ {A = ℕ} 0 1 = cc in absurd (omega arith);
@@ -49,18 +49,18 @@ module _ (some few placed : Bool) (o : Outcome (List Entry)) where
   fit f e = rw (f, and_left some (placed && true) e, and_left placed true (and_right some (placed && true) e))
 
 module _ (ar : List ℕ) (predicates n : ℕ) (constants ws : List ℕ) where
-  pub count-above : most_objects < n → {table : List ℕ} → Counts (spread_read ar predicates n constants ws) (Refused Range) table
+  pub count-above : most_objects < n → {table : List ℕ} → Counts (spread_read ar predicates n constants ws) (Err Range) table
   unfolding spread_read
   count-above h {table} =
       refused-counts table (unfew (leb 1 n) (leb n most_objects) (constants_below n constants) (spread ar predicates n constants ws) (lt-leb n most_objects h))
 
   module _ {b : Bool} (q : b ≡ is_state ar n constants []) where
-    pub count-unfit : b ≡ false → {table : List ℕ} → Counts (spread_read ar predicates n constants ws) (Refused Range) table
+    pub count-unfit : b ≡ false → {table : List ℕ} → Counts (spread_read ar predicates n constants ws) (Err Range) table
     unfolding spread_read is_state
     count-unfit e {table} =
         refused-counts table (unfit (leb 1 n) (leb n most_objects) (constants_below n constants) (spread ar predicates n constants ws) (sym q ∙ e))
 
-    pub count-fit : n ≤ most_objects → b ≡ true → {r : Counted} {table : List ℕ} → Counts (spread ar predicates n constants ws) r table
+    pub count-fit : n ≤ most_objects → b ≡ true → {r : Result ℕ Refusal} {table : List ℕ} → Counts (spread ar predicates n constants ws) r table
         → Counts (spread_read ar predicates n constants ws) r table
     unfolding spread_read is_state
     count-fit h e {r} {table} c =

@@ -23,14 +23,13 @@ use Rattle.model.specs.Inner.{Laid}
 use Rattle.model.specs.Layout.{action_words, variants_of, model_of}
 use Rattle.model_entry.specs.Inner.{FewVariants}
 use Rattle.model_entry.specs.Building.{variants_before}
-use Rattle.replay_step.specs.declared.Stepped.{Stepped}
 use Rattle.replay_step.specs.Stepped.{lent_did, Steps}
 use Rattle.memory.specs.declared.Numbers.{Numbers}
 use Rattle.memory.specs.declared.Said.{Said}
 use Rattle.memory.specs.Inner.{with_state}
-use Rattle.desk_lines.specs.declared.Found.{Found}
-use Rattle.desk_lines.specs.declared.Found.TheVariants.{At, Refused}
 use Rattle.desk_lines.specs.Lines.{Agreed}
+use Rattle.refusal.specs.declared.Refusal.{Refusal}
+use Rattle.std.specs.Prelude.{Err, Ok, Result}
 
 -- ===== Its names =====
 
@@ -44,16 +43,16 @@ pub record Findable (names table : List ℕ) (actions : ℕ) : Type 0 where
   pub few : FewVariants table actions
 
 -- the action a and its variant v are there, with as many objects as it has parameters, all in the state
-abbrev pub Fits : List ℕ → ℕ → Tuple → Found → Type 0
-Fits table actions o (At a v) = (a < actions) × (v < variants_of table a) × (o.count ≡ get_or table (a * action_words) 0) × (o.within ≡ true)
-Fits table actions o (Refused e) = Unit {0}
+abbrev pub Fits : List ℕ → ℕ → Tuple → Result (ℕ × ℕ) Refusal → Type 0
+Fits table actions o (Ok (a, v)) = (a < actions) × (v < variants_of table a) × (o.count ≡ get_or table (a * action_words) 0) × (o.within ≡ true)
+Fits table actions o (Err e) = Unit {0}
 
-abbrev pub FoundAs : Outcome SessionLive → Model → SessionLive → List ℕ → Found → Type 0
-FoundAs o m l os (At a v) = o ≡ did_to m l (record { action = a; variant = v; objects = os })
-FoundAs o m l os (Refused e) = o ≡ refused e
+abbrev pub FoundAs : Outcome SessionLive → Model → SessionLive → List ℕ → Result (ℕ × ℕ) Refusal → Type 0
+FoundAs o m l os (Ok (a, v)) = o ≡ did_to m l (record { action = a; variant = v; objects = os })
+FoundAs o m l os (Err e) = o ≡ refused e
 
 -- a line with the keys k and v, whose objects os are kept as o and a row: 2, 3, 2 and 4, or what is done
-pub record Finding (names table : List ℕ) (n : Counts) (k v : Key) (o : Tuple) (r : Found) : Type 0 where
+pub record Finding (names table : List ℕ) (n : Counts) (k v : Key) (o : Tuple) (r : Result (ℕ × ℕ) Refusal) : Type 0 where
   pub fits : Fits table n.actions o r
   pub found : (ar listings : List ℕ) (h : Head) (l : SessionLive) (os row : List ℕ) → Agreed table n h → TupleOf l.objects os o row
       → FoundAs (did_line (model_of ar listings table h) (names_of names n) l k v os) (model_of ar listings table h) l os r
@@ -73,7 +72,7 @@ pub record Movable (ar listings table : List ℕ) (h : Head) (a v : ℕ) (os sta
   pub objects : all_below l.objects os ≡ true
 
 -- what replay says of it, in the state in hand
-pub record StepsIn (ar listings table : List ℕ) (h : Head) (a v : ℕ) (os state : List ℕ) (l : Live) (r : Stepped) (rows : List ℕ) : Type 0 where
+pub record StepsIn (ar listings table : List ℕ) (h : Head) (a v : ℕ) (os state : List ℕ) (l : Live) (r : Result (ℕ × ℕ × ℕ) Refusal) (rows : List ℕ) : Type 0 where
   pub steps : Steps (did (model_of ar listings table h) (replay_in (live_of state l)) (lent_did a v os)) l.objects (take constant_count state) r rows
 
 -- an accepted line: another state, and its count and total

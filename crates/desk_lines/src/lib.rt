@@ -20,13 +20,11 @@ ghost use Rattle.desk_lines.specs.Doing.{variant_keys, moved, Findable, Finding,
 
 use answers::Answer;
 use best_move::Chosen;
-use count_states::Counted;
 use declare::Counts;
-use facts::{Live, Told, Tuple};
+use facts::{Live, Tuple};
 use memory::{Numbers, Said};
 use model::Head;
 use refusal::Refusal;
-use replay_step::Stepped;
 use text::Kind;
 use words::Key;
 
@@ -45,21 +43,17 @@ pub fn best(
     requires { MoveTask n names.now arities.now listings.now table.now state.now value.now work.old }
     ensures { BestAnswered number n names.now arities.now listings.now table.now state.now value.now result }
 {
-    let head = n.head;
-    let live = n.live;
-    let held = n.held;
-    let rows = held.rows;
-    let end = facts::FACTS_BASE + live.facts * facts::FACT_WORDS;
+    let end = facts::FACTS_BASE + n.live.facts * facts::FACT_WORDS;
     let m = best_move::best_move(
         arities,
         listings,
         table,
-        head,
-        live.objects,
+        n.head,
+        n.live.objects,
         &state[..facts::PLACED],
         &state[facts::FACTS_BASE..end],
         &state[facts::INDEX_BASE..facts::WORDS],
-        &value[..rows * 3],
+        &value[..n.held.rows * 3],
         work,
     );
     match m {
@@ -82,18 +76,18 @@ fn spread(
     constants: &[u64],
     words: &[u64],
     table: &mut [u64],
-) -> Counted
+) -> Result<usize, Refusal>
     requires { Spreadable arities.now predicates words.now table.old }
     ensures { CountedAs (spread_read arities.now predicates n constants.now words.now) result table.new }
 {
     if n > facts::OBJECTS {
-        return Counted::Refused(Refusal::Range);
+        return Err(Refusal::Range);
     }
     // a state of n objects without facts: there is an object, and no constant is placed beyond
     if valuing::state_fits(arities, n, constants, &words[..0]) {
         return count_states::count(arities, predicates, n, constants, words, table);
     }
-    Counted::Refused(Refusal::Range)
+    Err(Refusal::Range)
 }
 
 // (count n): how many values occur, with value and states of each in front of the working space, or the refusal.
@@ -110,36 +104,25 @@ pub fn count(
     ensures { CountAnswered line.now number n arities.now state.now value.now result work.new }
 {
     let next = events::next_event(line, events::first_word(Kind::Count));
-    let event = next.event;
-    let objects = events::number_in(event);
-    let counts = n.counts;
-    let held = n.held;
-    let rows = held.rows;
+    let objects = events::number_in(next.event);
     let lines = spread(
         arities,
-        counts.predicates,
+        n.counts.predicates,
         objects,
         &state[..facts::PLACED],
-        &value[..rows * 3],
+        &value[..n.held.rows * 3],
         work,
     );
     match lines {
-        Counted::Lines(m) => Said {
+        Ok(m) => Said {
             numbers: n,
             answer: Answer::Count(objects, m),
         },
-        Counted::Refused(why) => Said {
+        Err(why) => Said {
             numbers: n,
             answer: Answer::Refused(why, number),
         },
     }
-}
-
-// What the words of a (did ..) line say: its action and the action's variant, or why it is refused.
-#[derive(Clone, Copy)]
-enum Found {
-    At(usize, usize),
-    Refused(Refusal),
 }
 
 // The place of the key among the names of the variants of the action a, or how many these are.
@@ -154,26 +137,32 @@ fn find_variant(names: &[u64], table: &[u64], actions: usize, a: usize, key: Key
 }
 
 // Finds the action and its variant: 2 and 3 at the action's word, 2 at the variant's, 4 at an object.
-fn find(names: &[u64], n: Counts, table: &[u64], action: Key, variant: Key, objects: Tuple) -> Found
+fn find(
+    names: &[u64],
+    n: Counts,
+    table: &[u64],
+    action: Key,
+    variant: Key,
+    objects: Tuple,
+) -> Result<(usize, usize), Refusal>
     requires { Findable names.now table.now n.actions }
     ensures { Finding names.now table.now n action variant objects result }
 {
-    let actions = n.actions;
-    let a = names::find(names, names::ACTIONS, actions, action);
-    if a >= actions {
-        return Found::Refused(Refusal::Name);
+    let a = names::find(names, names::ACTIONS, n.actions, action);
+    if a >= n.actions {
+        return Err(Refusal::Name);
     }
     if objects.count != table[a * model::ACTION_WORDS] {
-        return Found::Refused(Refusal::Arity);
+        return Err(Refusal::Arity);
     }
-    let v = find_variant(names, table, actions, a, variant);
+    let v = find_variant(names, table, n.actions, a, variant);
     if v >= table[a * model::ACTION_WORDS + 1] as usize {
-        return Found::Refused(Refusal::Name);
+        return Err(Refusal::Name);
     }
     if objects.within {
-        return Found::At(a, v);
+        return Ok((a, v));
     }
-    Found::Refused(Refusal::Range)
+    Err(Refusal::Range)
 }
 
 // Copies the first words of the rows to where the facts stand.
@@ -182,11 +171,8 @@ fn copy_facts(state: &mut [u64], rows: &[u64], words: usize)
     requires words_in_bounds_2 { facts_base + words ≤ length state.old }
     ensures { state.new ≡ paste state.old facts_base rows.now words }
 {
-    let mut i = 0;
-    while i < words {
-        state[facts::FACTS_BASE + i] = rows[i];
-        i += 1;
-    }
+    let end = facts::FACTS_BASE + words;
+    state[facts::FACTS_BASE..end].copy_from_slice(&rows[..words]);
 }
 
 // What variant v of the action a does in the state in hand: the next facts go to the rows.
@@ -201,7 +187,7 @@ fn step_in(
     state: &[u64],
     live: Live,
     rows: &mut [u64],
-) -> Stepped
+) -> Result<(usize, u64, u64), Refusal>
     requires movable { Movable arities.now listings.now table.now head a v objects.now state.now live }
     requires fact_words_in_bounds { most_facts * fact_words ≤ length rows.old }
     ensures { StepsIn arities.now listings.now table.now head a v objects.now state.now live result rows.new }
@@ -236,28 +222,24 @@ fn replay(
     objects: &[u64],
     state: &mut [u64],
     live: Live,
-) -> Told
+) -> Result<Live, Refusal>
     requires { Movable arities.now listings.now table.now head a v objects.now state.old live }
     ensures { Living arities.now (did_to (model_of arities.now listings.now table.now head) (live_of state.old live)
         (record { action = a; variant = v; objects = objects.now })) state.old result state.new }
 {
     let mut rows = [0u64; facts::FACTS * facts::FACT_WORDS];
-    match step_in(
+    let (m, count, total) = step_in(
         arities, listings, table, head, a, v, objects, state, live, &mut rows,
-    ) {
-        Stepped::Done(m, count, total) => {
-            facts::unindex(arities, state, live.facts);
-            copy_facts(state, &rows, m * facts::FACT_WORDS);
-            facts::index(arities, state, m);
-            Told::Done(Live {
-                objects: live.objects,
-                facts: m,
-                count: count,
-                total: total,
-            })
-        }
-        Stepped::Refused(why) => Told::Refused(why),
-    }
+    )?;
+    facts::unindex(arities, state, live.facts);
+    copy_facts(state, &rows, m * facts::FACT_WORDS);
+    facts::index(arities, state, m);
+    Ok(Live {
+        facts: m,
+        count,
+        total,
+        ..live
+    })
 }
 
 // What a line does whose action and variant have these keys, and whose objects stand from the place `at` on.
@@ -272,33 +254,28 @@ fn carry_out(
     listings: &[u64],
     table: &[u64],
     state: &mut [u64],
-) -> Told
+) -> Result<Live, Refusal>
     requires at_in_bounds { at ≤ length line.now }
     requires line_len_bound { length line.now ≤ most_bytes }
     requires log_task { LogTask n names.now arities.now listings.now table.now state.old }
     ensures { Living arities.now (did_line (model_of arities.now listings.now table.now n.head) (names_of names.now n.counts)
         (live_of state.old n.live) action variant (numbers_in (events_of (drop at line.now)))) state.old result state.new }
 {
-    let live = n.live;
     let mut row = [0u64; facts::FACT_WORDS];
-    let objects = facts::read_tuple(line, at, live.objects, &mut row);
-    match find(names, n.counts, table, action, variant, objects) {
-        Found::At(a, v) => {
-            let end = 1 + (objects.count as usize);
-            replay(
-                arities,
-                listings,
-                table,
-                n.head,
-                a,
-                v,
-                &row[1..end],
-                state,
-                live,
-            )
-        }
-        Found::Refused(why) => Told::Refused(why),
-    }
+    let objects = facts::read_tuple(line, at, n.live.objects, &mut row);
+    let (a, v) = find(names, n.counts, table, action, variant, objects)?;
+    let end = 1 + (objects.count as usize);
+    replay(
+        arities,
+        listings,
+        table,
+        n.head,
+        a,
+        v,
+        &row[1..end],
+        state,
+        n.live,
+    )
 }
 
 // The numbers with another state, whose count and total are answered.
@@ -327,11 +304,9 @@ pub fn did(
         state.new }
 {
     let first = events::next_event(line, events::first_word(Kind::Did));
-    let name = first.event;
-    let action = events::key_in(name);
+    let action = events::key_in(first.event);
     let second = events::next_event(line, first.place);
-    let word = second.event;
-    let variant = events::key_in(word);
+    let variant = events::key_in(second.event);
     match carry_out(
         line,
         second.place,
@@ -344,8 +319,8 @@ pub fn did(
         table,
         state,
     ) {
-        Told::Done(live) => moved(n, live),
-        Told::Refused(why) => Said {
+        Ok(live) => moved(n, live),
+        Err(why) => Said {
             numbers: n,
             answer: Answer::Refused(why, number),
         },

@@ -20,11 +20,7 @@ use Rattle.reading.specs.declared.Binding.TheVariants.{Only}
 use Rattle.reading.specs.Reading.{Written, arguments, reading}
 use Rattle.reading.specs.Head.{Head, head_number, head_arguments}
 use Rattle.reading.specs.OutcomeLaws.{apart, ok-one}
-use Rattle.reader.specs.declared.Opened.{Opened}
-use Rattle.reader.specs.declared.Opened.TheVariants as P
 use Rattle.reader.specs.Callers.{judged_predicate, PredicateWithin}
-use Rattle.drawing.specs.declared.Built.{Built}
-use Rattle.drawing.specs.declared.Built.TheVariants.{Done, Refused}
 use Rattle.build.specs.Machine.{built}
 use Rattle.answers.specs.declared.Answer.TheVariants as A
 use Rattle.session.specs.Session.{Names, Session, with_actions}
@@ -44,6 +40,7 @@ use Rattle.drawing.specs.Drawing.{drawn, Draws}
 use Rattle.diagram_lines.specs.Lines.{roomed, lowered, truth_number, truth_of, TruthOpens, BecomesReady, BecomesSays}
 use Rattle.diagram_lines.proofs.RoomLaws.{roomed-ok, Drew, draws-refused, draws-done, drew-diagram, drew-canonical, drew-some, drew-room}
 use Rattle.diagram_lines.proofs.LineLaws.{line_refused, line-accepted, numbers_with, ListingAdded, added-stored}
+use Rattle.std.specs.Prelude.{Err, Ok, Result}
 
 -- ===== Read =====
 
@@ -170,8 +167,8 @@ module _ (s : List ℕ) (n : Numbers) (names ar listings table : List ℕ) where
       adds : {d : Diagram} → O p ≡ ok d → L ≡ ok (with_truth (session_of n Before) p d)
       adds f = goes e ∙ ap (λ (o : Outcome Diagram). and_then (and_then o (told p)) (λ t. ok (with_truth (session_of n Before) t.0 t.1))) f
 
-  module _ {t : Opened} (x : TruthOpens n names table E t) where
-    pub becomes-unopened : (number : ℕ) {w : Refusal} → t ≡ P.Refused w
+  module _ {t : Result ℕ Refusal} (x : TruthOpens n names table E t) where
+    pub becomes-unopened : (number : ℕ) {w : Refusal} → t ≡ Err w
         → BecomesSays s number n names ar listings table (record { numbers = n; answer = A.Refused w number }) listings table
     becomes-unopened number e = record {
       says = λ state value q.
@@ -179,7 +176,7 @@ module _ (s : List ℕ) (n : Numbers) (names ar listings table : List ℕ) where
           (stops number state value (sym (x.answer ar listings) ∙ ap judged_predicate e));
     }
 
-    module _ {p : ℕ} (e : t ≡ P.Predicate p) where
+    module _ {p : ℕ} (e : t ≡ Ok p) where
       number_is : N ≡ ok p
       number_is = sym (x.answer ar listings) ∙ ap judged_predicate e
 
@@ -191,14 +188,14 @@ module _ (s : List ℕ) (n : Numbers) (names ar listings table : List ℕ) where
           let h : (0 < p) × (p ≤ n.counts.predicates) = subst (PredicateWithin n.counts.predicates) e x.within in
           omega (arith, h.1, g.names.predicates)
 
-      module _ {out : List ℕ} {b : Built} (d : Draws ar (O p) b out) where
-        pub becomes-refused : (number : ℕ) {w : Refusal} → b ≡ Refused w
+      module _ {out : List ℕ} {b : Result ℕ Refusal} (d : Draws ar (O p) b out) where
+        pub becomes-refused : (number : ℕ) {w : Refusal} → b ≡ Err w
             → BecomesSays s number n names ar listings table (record { numbers = n; answer = A.Refused w number }) listings table
         becomes-refused number f = record {
           says = λ state value q. line_refused number q (line-is number state value) (stops-behind number state value number_is (draws-refused d f));
         }
 
-        module _ {work : List ℕ} (y : BecomesReady s n names ar listings table work) {k : ℕ} (f : b ≡ Done k) where
+        module _ {work : List ℕ} (y : BecomesReady s n names ar listings table work) {k : ℕ} (f : b ≡ Ok k) where
           abbrev D : Drew ar (O p) k out
           D = draws-done d f
 

@@ -24,8 +24,6 @@ use Rattle.reading.specs.Reading.{Written}
 use Rattle.reading.specs.Numbering.{reward_reading}
 use Rattle.reader.specs.declared.Scope.{Scope}
 use Rattle.reader.specs.Callers.{variable_words, names_of as table_names}
-use Rattle.drawing.specs.declared.Built.{Built}
-use Rattle.drawing.specs.declared.Built.TheVariants.{Done, Refused}
 use Rattle.build.specs.Machine.{built_closed}
 use Rattle.answers.specs.declared.Answer.TheVariants as A
 use Rattle.session.specs.Session.{Names, rewarded}
@@ -46,6 +44,7 @@ use Rattle.diagram_lines.specs.Lines.{roomed, roomed_as, Lent, RewardReady, Rewa
 use Rattle.diagram_lines.specs.ReadyLaws.{no-reward}
 use Rattle.diagram_lines.proofs.RoomLaws.{roomed-ok, draws-room, Drew, draws-refused, draws-done, drew-diagram, drew-canonical, drew-some, drew-room}
 use Rattle.diagram_lines.proofs.LineLaws.{line-short, line-begins, tables-of, no_keys, fresh-variables, line_refused, line-accepted, numbers_with, ListingAdded, added-stored}
+use Rattle.std.specs.Prelude.{Err, Ok, Result}
 
 -- ===== Read =====
 
@@ -79,7 +78,7 @@ module _ {s : List ℕ} {n : Numbers} {names ar work : List ℕ} (x : Lent Rewar
   }
 
   -- `read_reward`
-  pub reward-reads : {out : List ℕ} {at : ℕ} {b r : Built} → at ≡ first_word Reward
+  pub reward-reads : {out : List ℕ} {at : ℕ} {b r : Result ℕ Refusal} → at ≡ first_word Reward
       → Draws ar (drawn_closed (table_names names ar (reward_scope n)) (events_of (drop at s))) b out → r ≡ roomed_as false (n.head.words / 3) b
       → Draws ar (reward_read (names_of names n.counts) ar (n.head.words / 3) (words_of Reward s)) r out
   unfolding names_of
@@ -103,15 +102,15 @@ module _ (s : List ℕ) (n : Numbers) (names ar listings : List ℕ) where
   abbrev O : Outcome Diagram
   O = reward_read (names_of names n.counts) ar (n.head.words / 3) (words_of Reward s)
 
-  module _ {out : List ℕ} {b : Built} (d : Draws ar O b out) where
-    pub reward-refused : (number : ℕ) {r : Refusal} → b ≡ Refused r → RewardSays s number n names ar listings (record { numbers = n; answer = A.Refused r number }) listings
+  module _ {out : List ℕ} {b : Result ℕ Refusal} (d : Draws ar O b out) where
+    pub reward-refused : (number : ℕ) {r : Refusal} → b ≡ Err r → RewardSays s number n names ar listings (record { numbers = n; answer = A.Refused r number }) listings
     reward-refused number e = record {
       says = λ table state value q.
           let w : Memory = memory_of names ar listings table state value in
           line_refused number q (reward-done s number n w) (ap (λ (o : Outcome Diagram). and_then o (λ y. ok (with_reward (session_of n w) y))) (draws-refused d e));
     }
 
-    module _ {work : List ℕ} (x : RewardReady s n names ar listings work) {k : ℕ} (e : b ≡ Done k) where
+    module _ {work : List ℕ} (x : RewardReady s n names ar listings work) {k : ℕ} (e : b ≡ Ok k) where
       abbrev D : Drew ar O k out
       D = draws-done d e
 

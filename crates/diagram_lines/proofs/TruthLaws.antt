@@ -31,14 +31,8 @@ use Rattle.reading.specs.declared.Binding.TheVariants.{Only}
 use Rattle.reading.specs.Head.{Head, head_number, head_arguments, head_keys}
 use Rattle.reading.specs.LineLaws.{becomes-arguments}
 use Rattle.reading.specs.OutcomeLaws.{apart, ok-one, chained}
-use Rattle.reader.specs.declared.Opened.{Opened}
-use Rattle.reader.specs.declared.Opened.TheVariants as P
-use Rattle.reader.specs.declared.Headed.{Headed}
-use Rattle.reader.specs.declared.Headed.TheVariants as H
 use Rattle.reader.specs.Callers.{variable_words, names_of as table_names, judged_predicate, PredicateWithin, Opens, judged_head, HeadWithin, Heads}
 use Rattle.label.proofs.ArityLaws.{arity-most, arity-words}
-use Rattle.drawing.specs.declared.Built.{Built}
-use Rattle.drawing.specs.declared.Built.TheVariants.{Done, Refused}
 use Rattle.drawing.specs.Writing.{built_as}
 use Rattle.session.specs.Session.{Names}
 use Rattle.session.specs.ModelLines.{names_for, is_some, truths_now}
@@ -51,10 +45,11 @@ use Rattle.drawing.specs.Drawing.{drawn, Drawable, Draws}
 use Rattle.diagram_lines.specs.Lines.{roomed, pick_built, roomed_as, lowered, lowered_as, BuiltIn, truth_number, truth_of, Lent, action_scope, VariantOpen, TruthOpens}
 use Rattle.diagram_lines.proofs.RoomLaws.{draws-room, draws-none, draws-refused, draws-done, drew-words, drew-diagram, drew-room}
 use Rattle.diagram_lines.proofs.LineLaws.{line-short, tables-of}
+use Rattle.std.specs.Prelude.{Err, Ok, Result}
 
 -- ===== 7 =====
 
-module _ {ar out : List ℕ} {b : Built} (x : BuiltIn ar b out) {n : ℕ} (e : b ≡ Done n) where
+module _ {ar out : List ℕ} {b : Result ℕ Refusal} (x : BuiltIn ar b out) {n : ℕ} (e : b ≡ Ok n) where
   pub lower-room : n * 3 ≤ length out
   lower-room = x.room n e
 
@@ -64,11 +59,11 @@ module _ {ar out : List ℕ} {b : Built} (x : BuiltIn ar b out) {n : ℕ} (e : b
   pub lower-valid : Valid ar (take (n * 3) out)
   lower-valid = x.valid n e
 
-module _ (out : List ℕ) {b : Built} {n : ℕ} (e : b ≡ Done n) {c : Bool} (f : c ≡ leaf_above 1 (diagram_of (take (n * 3) out))) where
-  pub lower_high : c ≡ true → Refused Truth ≡ lowered_as out b
+module _ (out : List ℕ) {b : Result ℕ Refusal} {n : ℕ} (e : b ≡ Ok n) {c : Bool} (f : c ≡ leaf_above 1 (diagram_of (take (n * 3) out))) where
+  pub lower_high : c ≡ true → Err Truth ≡ lowered_as out b
   lower_high g = rw (e, ← f, g)
 
-  pub lower-low : c ≡ false → Done n ≡ lowered_as out b
+  pub lower-low : c ≡ false → Ok n ≡ lowered_as out b
   lower-low g = rw (e, ← f, g)
 
 lowered-ok : (o : Outcome Diagram) (d : Diagram) → lowered o ≡ ok d → o ≡ ok d
@@ -79,34 +74,34 @@ lowered-ok (ok x) d e = go (leaf_above 1 x) e
     go false e = e
 lowered-ok (refused w) d e = absurd (apart e)
 
-module _ {ar out : List ℕ} {o : Outcome Diagram} {b : Built} (x : Draws ar o b out) where
+module _ {ar out : List ℕ} {o : Outcome Diagram} {b : Result ℕ Refusal} (x : Draws ar o b out) where
   pub draws-built : BuiltIn ar b out
   draws-built = record {
     room = λ n e. drew-room (draws-done x e);
     valid = λ n e. let y = draws-done x e in subst (Valid ar) (sym (drew-words y)) (valid-listing ar y.diagram y.holds.good);
   }
 
-  pub draws-low : {c : Built} → c ≡ lowered_as out b → Draws ar (lowered o) c out
+  pub draws-low : {c : Result ℕ Refusal} → c ≡ lowered_as out b → Draws ar (lowered o) c out
   draws-low {c} e = record { answer = e ∙ go b refl; result = λ d q. x.result d (lowered-ok o d q) }
     where
-      pick : (t : Bool) (d : Diagram) → pick_built t (Refused Truth) (Done (length (rows d))) ≡ built_as (cond t (refused Truth) (ok d))
+      pick : (t : Bool) (d : Diagram) → pick_built t (Err Truth) (Ok (length (rows d))) ≡ built_as (cond t (refused Truth) (ok d))
       pick true d = refl
       pick false d = refl
 
-      go : (y : Built) → b ≡ y → lowered_as out b ≡ built_as (lowered o)
-      go (Done n) q =
+      go : (y : Result ℕ Refusal) → b ≡ y → lowered_as out b ≡ built_as (lowered o)
+      go (Ok n) q =
           let y = draws-done x q in
           ap (lowered_as out) q
-          ∙ ap (λ (d : Diagram). pick_built (leaf_above 1 d) (Refused Truth) (Done n)) (drew-diagram y)
-          ∙ ap (λ (k : ℕ). pick_built (leaf_above 1 y.diagram) (Refused Truth) (Done k)) y.count
+          ∙ ap (λ (d : Diagram). pick_built (leaf_above 1 d) (Err Truth) (Ok n)) (drew-diagram y)
+          ∙ ap (λ (k : ℕ). pick_built (leaf_above 1 y.diagram) (Err Truth) (Ok k)) y.count
           ∙ pick (leaf_above 1 y.diagram) y.diagram
           ∙ ap (λ (p : Outcome Diagram). built_as (lowered p)) (sym y.is)
-      go (Refused w) q = ap (lowered_as out) q ∙ ap (λ (p : Outcome Diagram). built_as (lowered p)) (sym (draws-refused x q))
+      go (Err w) q = ap (lowered_as out) q ∙ ap (λ (p : Outcome Diagram). built_as (lowered p)) (sym (draws-refused x q))
 
 -- ===== The diagram =====
 
 -- `draw_truth`
-pub draws-truth : {ar out : List ℕ} {o : Outcome Diagram} {b c d : Built} (r : ℕ) → Draws ar o b out → c ≡ lowered_as out b → d ≡ roomed_as false r c
+pub draws-truth : {ar out : List ℕ} {o : Outcome Diagram} {b c d : Result ℕ Refusal} (r : ℕ) → Draws ar o b out → c ≡ lowered_as out b → d ≡ roomed_as false r c
     → Draws ar (roomed false r (lowered o)) d out
 draws-truth r x e f = draws-room false r (draws-low x e) f
 
@@ -133,17 +128,17 @@ module _ {s : List ℕ} {n : Numbers} {names ar work : List ℕ} (x : Lent Becom
     pub becomes-known : p < predicate_count → p < length ar
     becomes-known h = omega (arith, arity-words ar x.vocabulary.arities)
 
-    module _ {first : ℕ} (f : first ≡ first_word Becomes) {vs : List ℕ} {t : Headed}
+    module _ {first : ℕ} (f : first ≡ first_word Becomes) {vs : List ℕ} {t : Result ℕ Refusal}
         (h : Heads s (get_or ar p 0) (head_arguments (get_or ar p 0) (events_of (drop first s))) t vs) where
       head-is : judged_head s vs (get_or ar p 0) t ≡ head_arguments (get_or ar p 0) (words_of Becomes s)
       head-is = h.answer ∙ ap (λ (i : ℕ). head_arguments (get_or ar p 0) (events_of (drop i s))) f
 
-      pub read-refused : {out : List ℕ} {w : Refusal} → t ≡ H.Refused w
-          → Draws ar (truth_of (names_of names n.counts) ar p (n.head.words / 3) (words_of Becomes s)) (Refused w) out
+      pub read-refused : {out : List ℕ} {w : Refusal} → t ≡ Err w
+          → Draws ar (truth_of (names_of names n.counts) ar p (n.head.words / 3) (words_of Becomes s)) (Err w) out
       read-refused e =
           draws-none (truth-refused (names_of names n.counts) ar p (n.head.words / 3) (words_of Becomes s) (sym (ap (judged_head s vs (get_or ar p 0)) (sym e) ∙ head-is)))
 
-      module _ {i : ℕ} (e : t ≡ H.Arguments i) where
+      module _ {i : ℕ} (e : t ≡ Ok i) where
         headed-is : head_arguments (get_or ar p 0) (words_of Becomes s) ≡ ok (record { variables = keys_at vs 0 (get_or ar p 0); rest = events_of (drop i s) })
         headed-is = sym (ap (judged_head s vs (get_or ar p 0)) (sym e) ∙ head-is)
 
@@ -169,7 +164,7 @@ module _ {s : List ℕ} {n : Numbers} {names ar work : List ℕ} (x : Lent Becom
           work-room = x.work-room;
         }
 
-        pub read-drawn : {out : List ℕ} {b : Built}
+        pub read-drawn : {out : List ℕ} {b : Result ℕ Refusal}
             → Draws ar (roomed false (n.head.words / 3) (lowered (drawn (table_names names ar (action_scope n Only)) (events_of (drop i s)) (keys_at vs 0 (get_or ar p 0))))) b out
             → Draws ar (truth_of (names_of names n.counts) ar p (n.head.words / 3) (words_of Becomes s)) b out
         unfolding names_of
@@ -179,7 +174,7 @@ module _ {s : List ℕ} {n : Numbers} {names ar work : List ℕ} (x : Lent Becom
 -- ===== The head =====
 
 -- `open_truth`
-module _ (s : List ℕ) (n : Numbers) (names table : List ℕ) {first : ℕ} (f : first ≡ first_word Becomes) {t : Opened}
+module _ (s : List ℕ) (n : Numbers) (names table : List ℕ) {first : ℕ} (f : first ≡ first_word Becomes) {t : Result ℕ Refusal}
     (o : Opens n.counts.predicates (head_number (keys_at names declared_at n.counts.predicates) (events_of (drop first s))) t) where
   number_is : (truths : Truths) → truth_number (names_of names n.counts) truths (words_of Becomes s)
       ≡ and_then (judged_predicate t) (λ p. cond (is_some (truths p)) (refused Name) (ok p))
@@ -187,16 +182,15 @@ module _ (s : List ℕ) (n : Numbers) (names table : List ℕ) {first : ℕ} (f 
   number_is truths = ap (λ (j : Outcome ℕ). and_then j (λ p. cond (is_some (truths p)) (refused Name) (ok p)))
       (sym (o.answer ∙ ap (λ (i : ℕ). head_number (keys_at names declared_at n.counts.predicates) (events_of (drop i s))) f))
 
-  pub open-refused : {w : Refusal} → t ≡ P.Refused w → TruthOpens n names table (words_of Becomes s) t
-  open-refused {w} e =
-      subst (TruthOpens n names table (words_of Becomes s)) (sym e) (record {
-        answer = λ ar listings.
-            let truths : Truths = truths_now (model_of ar listings table n.head).actions in
-            sym (number_is truths ∙ ap (λ (y : Opened). and_then (judged_predicate y) (λ p. cond (is_some (truths p)) (refused Name) (ok p))) e);
-        within = tt;
-      })
+  pub open-refused : {w : Refusal} → t ≡ Err w → TruthOpens n names table (words_of Becomes s) (Err w)
+  open-refused e = record {
+    answer = λ ar listings.
+        let truths : Truths = truths_now (model_of ar listings table n.head).actions in
+        sym (number_is truths ∙ ap (λ (y : Result ℕ Refusal). and_then (judged_predicate y) (λ p. cond (is_some (truths p)) (refused Name) (ok p))) e);
+    within = tt;
+  }
 
-  module _ {p : ℕ} (e : t ≡ P.Predicate p) where
+  module _ {p : ℕ} (e : t ≡ Ok p) where
     declared-is : (0 < p) × (p ≤ n.counts.predicates)
     declared-is = subst (PredicateWithin n.counts.predicates) e o.within
 
@@ -213,11 +207,11 @@ module _ (s : List ℕ) (n : Numbers) (names table : List ℕ) {first : ℕ} (f 
           ≡ cond b (refused Name) (ok p)
       there-is ar listings =
           let truths : Truths = truths_now (model_of ar listings table n.head).actions in
-          number_is truths ∙ ap (λ (y : Opened). and_then (judged_predicate y) (λ q. cond (is_some (truths q)) (refused Name) (ok q))) e
+          number_is truths ∙ ap (λ (y : Result ℕ Refusal). and_then (judged_predicate y) (λ q. cond (is_some (truths q)) (refused Name) (ok q))) e
           ∙ ap (λ (c : Bool). cond c (refused Name) (ok p)) (sym (h.answer ar listings))
 
-      pub open_twice : b ≡ true → TruthOpens n names table (words_of Becomes s) (P.Refused Name)
+      pub open_twice : b ≡ true → TruthOpens n names table (words_of Becomes s) (Err Name)
       open_twice g = record { answer = λ ar listings. sym (there-is ar listings ∙ ap (λ (c : Bool). cond c (refused Name) (ok p)) g); within = tt }
 
-      pub open-found : b ≡ false → TruthOpens n names table (words_of Becomes s) (P.Predicate p)
+      pub open-found : b ≡ false → TruthOpens n names table (words_of Becomes s) (Ok p)
       open-found g = record { answer = λ ar listings. sym (there-is ar listings ∙ ap (λ (c : Bool). cond c (refused Name) (ok p)) g); within = declared-is }

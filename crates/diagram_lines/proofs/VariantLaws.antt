@@ -33,8 +33,6 @@ use Rattle.reading.specs.Reading.{Written, arguments, reading}
 use Rattle.reading.specs.OutcomeLaws.{apart}
 use Rattle.reader.specs.Callers.{variable_words, names_of as table_names}
 use Rattle.reader.specs.SplitLaws.{next-splits}
-use Rattle.drawing.specs.declared.Built.{Built}
-use Rattle.drawing.specs.declared.Built.TheVariants.{Done, Refused}
 use Rattle.build.specs.Machine.{built}
 use Rattle.answers.specs.declared.Answer.TheVariants as A
 use Rattle.session.specs.Session.{Names, with_actions}
@@ -58,6 +56,7 @@ use Rattle.drawing.specs.Drawing.{drawn, Drawable, Draws}
 use Rattle.diagram_lines.specs.Lines.{roomed, roomed_as, Lent, action_scope, WeightAt, more_variants, VariantNamed, VariantReady, VariantSays}
 use Rattle.diagram_lines.proofs.RoomLaws.{roomed-ok, draws-room, draws-none, Drew, draws-refused, draws-done, drew-diagram, drew-canonical, drew-room}
 use Rattle.diagram_lines.proofs.LineLaws.{line-short, line-begins, tables-of, no_keys, fresh-variables, line_refused, line-accepted, numbers_with, ListingAdded, added-stored}
+use Rattle.std.specs.Prelude.{Err, Ok, Result}
 
 -- ===== Its name, and the place behind it =====
 
@@ -113,7 +112,7 @@ module _ {s : List ℕ} {n : Numbers} {names ar work : List ℕ} (x : Lent Varia
     abbrev read : Outcome Diagram
     read = weight_read (names_of names n.counts) ar (n.head.words / 3) k (events_of (drop at s))
 
-    pub weight-known : {out : List ℕ} → i < n.counts.variants → Draws ar read (Refused Name) out
+    pub weight-known : {out : List ℕ} → i < n.counts.variants → Draws ar read (Err Name) out
     unfolding names_of
     weight-known h =
         draws-none (weight-drawn (names_of names n.counts) ar (n.head.words / 3) k (events_of (drop at s))
@@ -121,7 +120,7 @@ module _ {s : List ℕ} {n : Numbers} {names ar work : List ℕ} (x : Lent Varia
         (drawn (names_for (names_of names n.counts) ar None (names_of names n.counts).parameters) (events_of (drop at s)) [])))
         (among-at names (variants_at + n.counts.earlier * 2) n.counts.variants k p h))
 
-    pub weight-reads : (vs : List ℕ) {out : List ℕ} {b r : Built} → n.counts.variants ≤ i
+    pub weight-reads : (vs : List ℕ) {out : List ℕ} {b r : Result ℕ Refusal} → n.counts.variants ≤ i
         → Draws ar (drawn (table_names names ar (action_scope n None)) (events_of (drop at s)) (keys_at vs 0 0)) b out
         → r ≡ roomed_as (leb most_variants n.counts.variants) (n.head.words / 3) b → Draws ar read r out
     unfolding names_of
@@ -222,8 +221,8 @@ module _ (s : List ℕ) (n : Numbers) (names ar listings table : List ℕ) {k : 
       ∙ ap₂ (λ (y : Key) (es : List Event). quietly (session_of n w) number (λ τ. τ)
       (and_then (weight_read (names_of names n.counts) ar (n.head.words / 3) y es) (λ d. ok (with_variant (session_of n w) y d)))) x.key x.rest
 
-  module _ {out : List ℕ} {b : Built} (d : Draws ar O b out) where
-    pub variant-refused : (number : ℕ) {r : Refusal} → b ≡ Refused r
+  module _ {out : List ℕ} {b : Result ℕ Refusal} (d : Draws ar O b out) where
+    pub variant-refused : (number : ℕ) {r : Refusal} → b ≡ Err r
         → VariantSays s number n names ar listings table (record { numbers = n; answer = A.Refused r number }) names listings table
     variant-refused number e = record {
       says = λ state value q.
@@ -231,7 +230,7 @@ module _ (s : List ℕ) (n : Numbers) (names ar listings table : List ℕ) {k : 
           (ap (λ (o : Outcome Diagram). and_then o (λ y. ok (with_variant (session_of n (memory_of names ar listings table state value)) k y))) (draws-refused d e));
     }
 
-    module _ {work : List ℕ} (y : VariantReady s n names ar listings table work) {m : ℕ} (e : b ≡ Done m) where
+    module _ {work : List ℕ} (y : VariantReady s n names ar listings table work) {m : ℕ} (e : b ≡ Ok m) where
       abbrev D : Drew ar O m out
       D = draws-done d e
 

@@ -20,10 +20,7 @@ use Rattle.reading.specs.declared.Binding.{Binding}
 use Rattle.reading.specs.declared.Binding.TheVariants.{Only}
 use Rattle.reading.specs.Head.{head_number, head_arguments}
 use Rattle.reader.specs.declared.Scope.{Scope}
-use Rattle.reader.specs.declared.Opened.{Opened}
 use Rattle.reader.specs.Callers.{judged_predicate, PredicateWithin}
-use Rattle.drawing.specs.declared.Built.{Built}
-use Rattle.drawing.specs.declared.Built.TheVariants.{Done, Refused}
 use Rattle.session.specs.Session.{Names, refuse_if}
 use Rattle.session.specs.Good.{most_variant_names}
 use Rattle.session.specs.ModelLines.{most_model_rows, names_for, rows_with, is_some, truths_now}
@@ -36,6 +33,8 @@ use Rattle.memory.specs.declared.Said.{Said}
 use Rattle.memory.specs.Inner.{LineOf, Ready, Answers}
 use Rattle.memory.specs.Memory.{memory_of}
 use Rattle.drawing.specs.Drawing.{drawn, DiagramAt}
+use Rattle.refusal.specs.declared.Refusal.{Refusal}
+use Rattle.std.specs.Prelude.{Err, Ok, Result}
 
 -- ===== Room for one listing more =====
 
@@ -43,14 +42,14 @@ use Rattle.drawing.specs.Drawing.{drawn, DiagramAt}
 abbrev pub roomed : Bool → ℕ → Outcome Diagram → Outcome Diagram
 roomed full r o = and_then o (λ d. refuse_if (full || ltb most_model_rows (rows_with r d)) Space (ok d))
 
-abbrev pub pick_built : Bool → Built → Built → Built
+abbrev pub pick_built : Bool → Result ℕ Refusal → Result ℕ Refusal → Result ℕ Refusal
 pick_built true x y = x
 pick_built false x y = y
 
 -- the same of the answer that building it gives
-abbrev pub roomed_as : Bool → ℕ → Built → Built
-roomed_as full r (Done n) = pick_built (full || ltb most_model_rows (r + n)) (Refused Space) (Done n)
-roomed_as full r (Refused w) = Refused w
+abbrev pub roomed_as : Bool → ℕ → Result ℕ Refusal → Result ℕ Refusal
+roomed_as full r (Ok n) = pick_built (full || ltb most_model_rows (r + n)) (Err Space) (Ok n)
+roomed_as full r (Err w) = Err w
 
 -- ===== A truth diagram =====
 
@@ -59,14 +58,14 @@ abbrev pub lowered : Outcome Diagram → Outcome Diagram
 lowered o = and_then o (λ d. refuse_if (leaf_above 1 d) Truth (ok d))
 
 -- the same of the answer that building it gives, its listing in the result buffer
-abbrev pub lowered_as : List ℕ → Built → Built
-lowered_as out (Done n) = pick_built (leaf_above 1 (diagram_of (take (n * 3) out))) (Refused Truth) (Done n)
-lowered_as out (Refused w) = Refused w
+abbrev pub lowered_as : List ℕ → Result ℕ Refusal → Result ℕ Refusal
+lowered_as out (Ok n) = pick_built (leaf_above 1 (diagram_of (take (n * 3) out))) (Err Truth) (Ok n)
+lowered_as out (Err w) = Err w
 
 -- the rows that are built are a listing in the result buffer
-pub record BuiltIn (ar : List ℕ) (b : Built) (out : List ℕ) : Type 0 where
-  pub room : (n : ℕ) → b ≡ Done n → n * 3 ≤ length out
-  pub valid : (n : ℕ) → b ≡ Done n → Valid ar (take (n * 3) out)
+pub record BuiltIn (ar : List ℕ) (b : Result ℕ Refusal) (out : List ℕ) : Type 0 where
+  pub room : (n : ℕ) → b ≡ Ok n → n * 3 ≤ length out
+  pub valid : (n : ℕ) → b ≡ Ok n → Valid ar (take (n * 3) out)
 
 -- the predicate of a head: 2 where it is undeclared or has a truth diagram already
 unfoldable pub truth_number : Names → Truths → List Event → Outcome ℕ
@@ -155,7 +154,7 @@ pub record VariantOpen (table : List ℕ) (n : Numbers) : Type 0 where
   pub has : 0 < n.counts.variants
 
 -- the predicate of the head, whatever listings the model has
-pub record TruthOpens (n : Numbers) (names table : List ℕ) (es : List Event) (r : Opened) : Type 0 where
+pub record TruthOpens (n : Numbers) (names table : List ℕ) (es : List Event) (r : Result ℕ Refusal) : Type 0 where
   pub answer : (ar listings : List ℕ)
       → judged_predicate r ≡ truth_number (names_of names n.counts) (truths_now (model_of ar listings table n.head).actions) es
   pub within : PredicateWithin n.counts.predicates r

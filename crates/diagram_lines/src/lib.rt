@@ -20,9 +20,8 @@ ghost use Rattle.diagram_lines.specs.Lines.{roomed, roomed_as, lowered, lowered_
 
 use answers::Answer;
 use declare::Counts;
-use drawing::Built;
 use memory::{Numbers, Said};
-use reader::{Headed, Opened, Scope};
+use reader::Scope;
 use reading::Binding;
 use refusal::Refusal;
 use text::Kind;
@@ -32,20 +31,15 @@ use words::Key;
 const MODEL_ROWS: usize = model::LISTING_WORDS / 3;
 
 // The rows of a diagram that is built, or 9 where there is no room beside it, or the model's listings, with so many words in use, have none for them.
-fn room(built: Built, full: bool, words: usize) -> Built
+fn room(built: Result<usize, Refusal>, full: bool, words: usize) -> Result<usize, Refusal>
     requires { words ≤ listing_words }
     ensures { result ≡ roomed_as full (words / 3) built }
 {
-    let Built::Done(rows) = built else {
-        return built;
-    };
-    if full {
-        return Built::Refused(Refusal::Space);
+    let rows = built?;
+    if full || rows > MODEL_ROWS - words / 3 {
+        return Err(Refusal::Space);
     }
-    if rows > MODEL_ROWS - words / 3 {
-        return Built::Refused(Refusal::Space);
-    }
-    built
+    Ok(rows)
 }
 
 // Reads the diagram of a (reward DIAGRAM), and lists it in the result buffer.
@@ -56,7 +50,7 @@ fn read_reward(
     arities: &[u64],
     out: &mut [u64],
     work: &mut [u64],
-) -> Built
+) -> Result<usize, Refusal>
     requires lent { Lent Reward line.now n names.now arities.now work.old }
     requires result_words_in_bounds { result_words ≤ length out.old }
     ensures { Draws arities.now (reward_read (names_of names.now n.counts) arities.now (n.head.words / 3) (words_of Reward line.now)) result out.new }
@@ -89,17 +83,18 @@ pub fn reward(
     let mut out = [0u64; diagram::RESULT_WORDS];
     let built = read_reward(line, n, names, arities, &mut out, work);
     match built {
-        Built::Refused(why) => Said {
+        Err(why) => Said {
             numbers: n,
             answer: Answer::Refused(why, number),
         },
-        Built::Done(rows) => {
+        Ok(rows) => {
             let head = model_entry::add_reward(listings, n.head, &out, rows);
-            let mut next = n;
-            next.reward = true;
-            next.head = head;
             Said {
-                numbers: next,
+                numbers: Numbers {
+                    reward: true,
+                    head,
+                    ..n
+                },
                 answer: Answer::Nothing,
             }
         }
@@ -116,17 +111,16 @@ fn read_weight(
     arities: &[u64],
     out: &mut [u64],
     work: &mut [u64],
-) -> Built
+) -> Result<usize, Refusal>
     requires lent { Lent Variant line.now n names.now arities.now work.old }
     requires weight_at { WeightAt line.now at }
     requires result_words_in_bounds { result_words ≤ length out.old }
     ensures { Draws arities.now (weight_read (names_of names.now n.counts) arities.now (n.head.words / 3) key (events_of (drop at line.now))) result out.new }
 {
-    let counts = n.counts;
-    let count = counts.variants;
-    let base = names::VARIANTS + counts.earlier * 2;
+    let count = n.counts.variants;
+    let base = names::VARIANTS + n.counts.earlier * 2;
     if names::find(names, base, count, key) < count {
-        return Built::Refused(Refusal::Name);
+        return Err(Refusal::Name);
     }
     let mut variables = [0u64; reader::VARIABLE_WORDS];
     let scope = Scope {
@@ -154,11 +148,11 @@ fn name_variant(names: &mut [u64], n: Counts, key: Key) -> Counts
     requires { variants_at + (n.earlier + n.variants) * 2 + 2 ≤ length names.old }
     ensures { VariantNamed names.old n key result names.new }
 {
-    let count = n.variants;
-    names::put(names, names::VARIANTS + (n.earlier + count) * 2, key);
-    let mut next = n;
-    next.variants = count + 1;
-    next
+    names::put(names, names::VARIANTS + (n.earlier + n.variants) * 2, key);
+    Counts {
+        variants: n.variants + 1,
+        ..n
+    }
 }
 
 // (variant n WEIGHT)
@@ -176,24 +170,19 @@ pub fn variant(
     ensures { VariantSays line.now number n names.old arities.now listings.old table.old result names.new listings.new table.new }
 {
     let first = events::next_event(line, events::first_word(Kind::Variant));
-    let event = first.event;
-    let key = events::key_in(event);
-    let at = first.place;
+    let key = events::key_in(first.event);
     let mut out = [0u64; diagram::RESULT_WORDS];
-    let built = read_weight(line, at, key, n, names, arities, &mut out, work);
+    let built = read_weight(line, first.place, key, n, names, arities, &mut out, work);
     match built {
-        Built::Refused(why) => Said {
+        Err(why) => Said {
             numbers: n,
             answer: Answer::Refused(why, number),
         },
-        Built::Done(rows) => {
+        Ok(rows) => {
             let head = model_entry::add_variant(listings, table, n.head, &out, rows);
             let counts = name_variant(names, n.counts, key);
-            let mut next = n;
-            next.counts = counts;
-            next.head = head;
             Said {
-                numbers: next,
+                numbers: Numbers { counts, head, ..n },
                 answer: Answer::Nothing,
             }
         }
@@ -201,17 +190,15 @@ pub fn variant(
 }
 
 // The rows of a diagram that is built, or 7 where it has a leaf above 1.
-fn lower(built: Built, arities: &[u64], out: &[u64]) -> Built
+fn lower(built: Result<usize, Refusal>, arities: &[u64], out: &[u64]) -> Result<usize, Refusal>
     requires { BuiltIn arities.now built out.now }
     ensures { result ≡ lowered_as out.now built }
 {
-    let Built::Done(rows) = built else {
-        return built;
-    };
+    let rows = built?;
     if truths::has_high_leaf(arities, &out[..rows * 3]) {
-        return Built::Refused(Refusal::Truth);
+        return Err(Refusal::Truth);
     }
-    built
+    Ok(rows)
 }
 
 // Draws the diagram of a (becomes (p ?a ..) DIAGRAM) that stands on the line from the place `at` on, the arguments known.
@@ -225,7 +212,7 @@ fn draw_truth(
     known: usize,
     out: &mut [u64],
     work: &mut [u64],
-) -> Built
+) -> Result<usize, Refusal>
     requires drawable { Drawable line.now at names.now arities.now (action_scope n Only) variables.old known out.old work.old }
     requires words_le_listing_words { n.head.words ≤ listing_words }
     ensures { Draws arities.now (roomed false (n.head.words / 3) (lowered (drawn (table_names names.now arities.now (action_scope n Only)) (events_of (drop at line.now)) (keys_at variables.old 0 known)))) result out.new }
@@ -250,7 +237,7 @@ fn read_truth(
     arities: &[u64],
     out: &mut [u64],
     work: &mut [u64],
-) -> Built
+) -> Result<usize, Refusal>
     requires lent { Lent Becomes line.now n names.now arities.now work.old }
     requires p_lt_predicate_count { p < predicate_count }
     requires result_words_in_bounds { result_words ≤ length out.old }
@@ -259,39 +246,33 @@ fn read_truth(
     let first = events::first_word(Kind::Becomes);
     let mut variables = [0u64; reader::VARIABLE_WORDS];
     let arity = arities[p] as usize;
-    let headed = reader::head_arguments(line, first, &mut variables, arity);
-    match headed {
-        Headed::Refused(why) => Built::Refused(why),
-        Headed::Arguments(at) => draw_truth(
-            line,
-            at,
-            n,
-            names,
-            arities,
-            &mut variables,
-            arity,
-            out,
-            work,
-        ),
-    }
+    let at = reader::head_arguments(line, first, &mut variables, arity)?;
+    draw_truth(
+        line,
+        at,
+        n,
+        names,
+        arities,
+        &mut variables,
+        arity,
+        out,
+        work,
+    )
 }
 
 // The predicate of the head of a (becomes (p ?a ..) DIAGRAM): 2 where it is undeclared, or the last variant has a truth diagram of it.
-fn open_truth(line: &[u8], n: Numbers, names: &[u64], table: &[u64]) -> Opened
+fn open_truth(line: &[u8], n: Numbers, names: &[u64], table: &[u64]) -> Result<usize, Refusal>
     requires line_of { LineOf Becomes line.now }
     requires good_names { GoodNames names.now n.counts }
     requires variant_open { VariantOpen table.now n }
     ensures { TruthOpens n names.now table.now (words_of Becomes line.now) result }
 {
     let first = events::first_word(Kind::Becomes);
-    let opened = reader::head_predicate(line, first, names, n.counts.predicates);
-    let Opened::Predicate(p) = opened else {
-        return opened;
-    };
+    let p = reader::head_predicate(line, first, names, n.counts.predicates)?;
     if model_entry::has_truth(table, n.head, p) {
-        return Opened::Refused(Refusal::Name);
+        return Err(Refusal::Name);
     }
-    opened
+    Ok(p)
 }
 
 // (becomes (p ?a ..) DIAGRAM)
@@ -310,24 +291,22 @@ pub fn becomes(
 {
     let opened = open_truth(line, n, names, table);
     match opened {
-        Opened::Refused(why) => Said {
+        Err(why) => Said {
             numbers: n,
             answer: Answer::Refused(why, number),
         },
-        Opened::Predicate(p) => {
+        Ok(p) => {
             let mut out = [0u64; diagram::RESULT_WORDS];
             let built = read_truth(line, p, n, names, arities, &mut out, work);
             match built {
-                Built::Refused(why) => Said {
+                Err(why) => Said {
                     numbers: n,
                     answer: Answer::Refused(why, number),
                 },
-                Built::Done(rows) => {
+                Ok(rows) => {
                     let head = model_entry::add_truth(listings, table, n.head, p, &out, rows);
-                    let mut next = n;
-                    next.head = head;
                     Said {
-                        numbers: next,
+                        numbers: Numbers { head, ..n },
                         answer: Answer::Nothing,
                     }
                 }

@@ -5,7 +5,7 @@ use mathlib.Core.Bool.{true}
 use mathlib.Core.List.{List, ◌++◌}
 use native.Mathlib.Omega.{arith}
 use native.Mathlib.Nat.{le_trans}
-use lib.ListN.{length, drop, replicate, length-append, length-replicate}
+use lib.ListN.{length, drop, length-append}
 use lib.Seq.{take_at}
 use Rattle.refusal.specs.declared.Refusal.{Refusal}
 use Rattle.label.specs.Labels.{are_arities}
@@ -27,22 +27,20 @@ use Rattle.reading.specs.Tree.{Reading, ops_of}
 use Rattle.reading.specs.Numbering.{reward_reading}
 use Rattle.reader.specs.declared.Scope.{Scope}
 use Rattle.reader.specs.declared.Known.{Known}
-use Rattle.reader.specs.declared.Read.{Read}
-use Rattle.reader.specs.declared.Read.TheVariants as W
 use Rattle.reader.specs.OperationWords.{ops_in}
 use Rattle.reader.specs.Callers.{names_of, argument_count, Readable, Reads}
 use Rattle.reader.specs.ReadLaws.{tables-fit, Diagrammed, read-diagram}
-use Rattle.drawing.specs.declared.Built.{Built}
-use Rattle.drawing.specs.declared.Built.TheVariants.{Refused}
 use Rattle.build.specs.Machine.{built, built_closed, most_tests}
 use Rattle.build.specs.MachineLaws.{built-text, built-reward}
 use Rattle.build.specs.ReadingLaws.{text-good, reward-good}
 use Rattle.drawing.specs.Writing.{built_as, Buildable, Labelled, BuildAnswered}
 use Rattle.drawing.specs.Drawing.{Drawable, Holds, Draws}
-use Rattle.drawing.specs.Endings.{built_to, known_to, Allows, drawn_to, short_line}
+use Rattle.drawing.specs.Endings.{built_to, known_to, Allows, drawn_to}
 use Rattle.drawing.specs.declared.Ending.{Ending}
 use Rattle.drawing.specs.declared.Ending.TheVariants.{Plain, Closed}
 use Rattle.drawing.proofs.LabelLaws.{asked-label, each-asked, each-value}
+use Rattle.std.specs.Prelude.{Err, Result}
+use Rattle.std.specs.Prelude.{Ok}
 
 -- ===== What is drawn, by what is read =====
 
@@ -68,7 +66,7 @@ listing-holds ar d rest g = record {
   good = g;
 }
 
-answered-draws : {ar : List ℕ} {o p : Outcome Diagram} {out out' : List ℕ} {r : Built} → p ≡ o → ((d : Diagram) → o ≡ ok d → Good ar d) → BuildAnswered o out r out' → Draws ar p r out'
+answered-draws : {ar : List ℕ} {o p : Outcome Diagram} {out out' : List ℕ} {r : Result ℕ Refusal} → p ≡ o → ((d : Diagram) → o ≡ ok d → Good ar d) → BuildAnswered o out r out' → Draws ar p r out'
 answered-draws {ar} {o} {p} {out} {out'} e g a = record {
   answer = a.answer ∙ ap built_as (sym e);
   result = λ d h.
@@ -79,12 +77,7 @@ answered-draws {ar} {o} {p} {out} {out'} e g a = record {
 
 -- ===== The code =====
 
--- room for the operations of the longest line in an array of n words
-pub room_in : (n : ℕ) → 4095 * 2 ≤ n → {line : List ℕ} {at : ℕ} {names arities : List ℕ} {scope : Scope} {vs : List ℕ} {known : ℕ} {out work : List ℕ}
-    → Drawable line at names arities scope vs known out work → length line * 2 ≤ length {A = ℕ} (replicate n 0)
-room_in n h d = omega (arith, h, d.short, length-replicate {A = ℕ} n 0)
-
-module _ (ar : List ℕ) (os : List Op) {x : Ending} {out out' : List ℕ} {r : Built} where
+module _ (ar : List ℕ) (os : List Op) {x : Ending} {out out' : List ℕ} {r : Result ℕ Refusal} where
   pub answered-plain : x ≡ Plain → BuildAnswered (built os) out r out' → BuildAnswered (built_to x ar os) out r out'
   unfolding built_to
   answered-plain e a = subst (λ (y : Ending). BuildAnswered (built_to y ar os) out r out') (sym e) a
@@ -107,7 +100,7 @@ reads-fresh g = record {
 pub reads-any : (x : Ending) (scope : Scope) → x ≡ Closed → Allows x scope → scope.binding ≡ Any
 reads-any x scope e a = subst (λ (y : Ending). Allows y scope) e a
 
-module _ (σ : Environment) (es : List Event) (ks : List Key) {x : Ending} {r : Read} {vs' os' : List ℕ} where
+module _ (σ : Environment) (es : List Event) (ks : List Key) {x : Ending} {r : Result (ℕ × Known) Refusal} {vs' os' : List ℕ} where
   pub reads_plain : x ≡ Plain → Reads (reading σ es (arguments ks)) r vs' os' → Reads (reading σ es (known_to x es ks)) r vs' os'
   unfolding known_to
   reads_plain e g = subst (λ (y : Ending). Reads (reading σ es (known_to y es ks)) r vs' os') (sym e) g
@@ -116,12 +109,8 @@ module _ (σ : Environment) (es : List Event) (ks : List Key) {x : Ending} {r : 
   unfolding known_to reward_reading
   reads-closed e g = subst (λ (y : Ending). Reads (reading σ es (known_to y es ks)) r vs' os') (sym e) g
 
--- room for the operations of a short line in an array of n words
-pub short-room : (n : ℕ) → short_line * 2 ≤ n → (line : List ℕ) → length line ≤ short_line → length line * 2 ≤ length {A = ℕ} (replicate n 0)
-short-room n h line l = omega (arith, h, l, length-replicate {A = ℕ} n 0)
-
 module _ (ending : Ending) {line : List ℕ} {at : ℕ} {names arities : List ℕ} {scope : Scope} {vs : List ℕ} {known : ℕ} {out work : List ℕ}
-    (x : Drawable line at names arities scope vs known out work) {r : Read} {vs' os' : List ℕ}
+    (x : Drawable line at names arities scope vs known out work) {r : Result (ℕ × Known) Refusal} {vs' os' : List ℕ}
     (g : Reads (reading (names_of names arities scope) (events_of (drop at line)) (known_to ending (events_of (drop at line)) (keys_at vs 0 known))) r vs' os') where
   abbrev σ : Environment
   σ = names_of names arities scope
@@ -135,9 +124,9 @@ module _ (ending : Ending) {line : List ℕ} {at : ℕ} {names arities : List �
   abbrev us : List Key
   us = keys_at vs 0 known
 
-  module _ {n : ℕ} {m : Known} (e : r ≡ W.Done n m) where
-    done : Reads (reading σ es ks) (W.Done n m) vs' os'
-    done = subst (λ (y : Read). Reads (reading σ es ks) y vs' os') e g
+  module _ {n : ℕ} {m : Known} (e : r ≡ Ok (n, m)) where
+    done : Reads (reading σ es ks) (Ok (n, m)) vs' os'
+    done = subst (λ (y : Result (ℕ × Known) Refusal). Reads (reading σ es ks) y vs' os') e g
 
     read_as : Diagrammed σ ks x.there.diagram n os'
     read_as = read-diagram σ (tables-fit names arities scope x.tables) x.there.diagram es x.there.events ks done
@@ -157,7 +146,7 @@ module _ (ending : Ending) {line : List ℕ} {at : ℕ} {names arities : List �
       work-room = x.work-room;
     }
 
-    pub built-draws : {q : Built} {out' : List ℕ} → BuildAnswered (built_to ending arities (ops_in os' n)) out q out'
+    pub built-draws : {q : Result ℕ Refusal} {out' : List ℕ} → BuildAnswered (built_to ending arities (ops_in os' n)) out q out'
         → Draws arities (drawn_to ending σ es us) q out'
     built-draws a = answered-draws (drawn-by ending σ es us _ (sym done.answer)) good a
       where
@@ -165,9 +154,9 @@ module _ (ending : Ending) {line : List ℕ} {at : ℕ} {names arities : List �
         good d h = built-good ending arities (Named (length σ.parameters) (reach σ.binding ks)) read_as.tree d x.tables.arities-fit read_as.good
             (le_trans read_as.shallow x.there.shallow) (ap (built_to ending arities) (sym read_as.operations) ∙ h)
 
-  pub refused-draws : {w : Refusal} {out' : List ℕ} → r ≡ W.Refused w → Draws arities (drawn_to ending σ es us) (Refused w) out'
+  pub refused-draws : {w : Refusal} {out' : List ℕ} → r ≡ Err w → Draws arities (drawn_to ending σ es us) (Err w) out'
   refused-draws {w} e =
-      let b : Reads (reading σ es ks) (W.Refused w) vs' os' = subst (λ (y : Read). Reads (reading σ es ks) y vs' os') e g in
+      let b : Reads (reading σ es ks) (Err w) vs' os' = subst (λ (y : Result (ℕ × Known) Refusal). Reads (reading σ es ks) y vs' os') e g in
       let z : drawn_to ending σ es us ≡ refused w = drawn-by ending σ es us _ (sym b.answer) in
       record {
         answer = ap built_as (sym z);

@@ -5,13 +5,14 @@ use Prim.Native.Nat.{ℕ, zero, suc, ◌+◌, ◌*◌, ◌/◌, ◌≤◌, ◌<�
 use native.Mathlib.Omega.{arith}
 use lib.ListN.{length, get_or, take}
 use lib.Seq.{length-take-le, get_or-take}
-use Rattle.drawing.specs.declared.Built.{Built}
 use Rattle.build.specs.Machine.{built, built_closed}
 use Rattle.drawing.specs.Stacks.{ops_from, whole_ops}
 use Rattle.drawing.specs.Writing.{Buildable, Labelled, Callable, Under, BuildAnswered}
 use Rattle.names.specs.Many.{many}
 use Rattle.reading.specs.Operations.{Op}
 use Rattle.reader.specs.OperationWords.{op_at, ops_in}
+use Rattle.refusal.specs.declared.Refusal.{Refusal}
+use Rattle.std.specs.Prelude.{Result}
 
 from_last : (ws : List ℕ) (k n : ℕ) → ops_from ws k (suc n) ≡ ops_from ws k n ++ (op_at ws (k + n) ∷ [])
 unfolding ops_from
@@ -71,7 +72,7 @@ part-under {ar} {ops} {n = n} l g = record {
       (l.labels k (omega (arith, long ops n g.words)) (sym (word_at ops n g.words (k * 2) (omega (arith, long ops n g.words))) ∙ e));
 }
 
-module _ {ops out work : List ℕ} {n : ℕ} (g : Buildable ops n out work) {r : Built} {out' : List ℕ} where
+module _ {ops out work : List ℕ} {n : ℕ} (g : Buildable ops n out work) {r : Result ℕ Refusal} {out' : List ℕ} where
   pub part-built : BuildAnswered (built (whole_ops (take (n * 2) ops))) out r out' → BuildAnswered (built (ops_in ops n)) out r out'
   part-built a = subst (λ (os : List Op). BuildAnswered (built os) out r out') (part-ops ops n g.words) a
 

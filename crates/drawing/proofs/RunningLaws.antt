@@ -1,7 +1,7 @@
 -- Laws of the loop over the operations.
 use mathlib.Core.Path.{◌≡◌, refl, ap, subst, ◌∙◌}
 use mathlib.Core.List.{List, []}
-use Prim.Native.Nat.{ℕ, zero, suc, ◌+◌, ◌*◌, ◌/◌, ◌-◌, ◌≤◌, ◌<◌}
+use Prim.Native.Nat.{ℕ, zero, suc, ◌+◌, ◌/◌, ◌-◌, ◌≤◌, ◌<◌}
 use native.Mathlib.Omega.{arith}
 use native.Mathlib.Numerals.{add-one}
 use lib.ListN.{length, get_or, replicate, length-replicate}
@@ -11,15 +11,13 @@ use Rattle.diagram.specs.Diagram.{Diagram}
 use Rattle.diagram.specs.Validity.{tree}
 use Rattle.plan.specs.Plan.{Clean}
 use Rattle.store.specs.Space.{diagrams_of}
-use Rattle.row_steps.specs.declared.Stepped.TheVariants.{Row, Refused as StepRefused}
 use Rattle.refusal.specs.Outcome.{Outcome, ok, refused, and_then}
 use Rattle.regression.specs.Calls.{Run}
 use Rattle.row_steps.specs.Running.{Space, Ready, Gave, Final, Ran}
-use Rattle.drawing.specs.declared.Moved.{Moved}
-use Rattle.drawing.specs.declared.Moved.TheVariants.{To, Refused}
 use Rattle.build.specs.Machine.{Machine, most_tests, operation, operations, ending, build}
 use Rattle.drawing.specs.Stacks.{ops_from, whole_ops, tests_of, results_of, machine_of, stack_words, Stacked, rows_then, Moves}
 use Rattle.reader.specs.OperationWords.{op_at}
+use Rattle.std.specs.Prelude.{Err, Ok, Result}
 
 abbrev empty : Machine
 empty = record { tests = []; results = []; formed = [] }
@@ -76,25 +74,25 @@ unfolding tests_of results_of
 lone-one ops stack s count = refl
 
 ran-refused : {limit : ℕ} {m : Run Diagram} {s₀ s heads links index : List ℕ} {w : Refusal} {c : ℕ} → Space s heads links c → Clean index
-    → (Final limit w → m (diagrams_of s₀ 0) ≡ refused w) → Ran limit m s₀ 0 (StepRefused w c) s heads links index
-ran-refused {limit} {m = m} {s₀ = s₀} {w = w} z k e = record {
+    → (Final limit w → m (diagrams_of s₀ 0) ≡ refused w) → Ran limit m s₀ 0 (Err (w, c)) s heads links index
+ran-refused {limit} {m = m} {s₀ = s₀} {w = w} {c = c} z k e = record {
   space = z;
   clean = k;
   row = λ i n q. let y : ◌≡◌ {A = ℕ} 0 1 = cc in absurd (omega arith);
-  refusal = λ v n q. let y : w ≡ v = cc in subst (λ (u : Refusal). Final limit u → m (diagrams_of s₀ 0) ≡ refused u) y e;
+  refusal = λ v n q.
+      let z : ◌≡◌ {A = Refusal × ℕ} (w, c) (v, n) = cc in
+      let y = ap (λ (p : Refusal × ℕ). p.0) z in
+      subst (λ (u : Refusal). Final limit u → m (diagrams_of s₀ 0) ≡ refused u) y e;
 }
 
 module _ {ops stack s : List ℕ} {t d count k : ℕ} (g : Running ops stack s t d count k) where
-  pub running-here : k < length ops / 2 → k * 2 + 2 ≤ length ops
-  running-here h = omega arith
-
-  module _ (h : k < length ops / 2) {limit : ℕ} {r : Moved} {stack' s' heads' links' index' : List ℕ}
+  module _ (h : k < length ops / 2) {limit : ℕ} {r : Result (ℕ × ℕ × ℕ) (Refusal × ℕ)} {stack' s' heads' links' index' : List ℕ}
       (x : Moves limit (op_at ops k) (machine_of ops stack s t d count) ops r stack' s' heads' links' index') where
     next : operations (whole_ops ops) empty
         ≡ and_then (operation (op_at ops k) (machine_of ops stack s t d count)) (operations (ops_from ops (suc k) (length ops / 2 - (k + 1))))
     next = g.rest ∙ ops-next ops k (length ops / 2 - k) (length ops / 2 - (k + 1)) (machine_of ops stack s t d count) (omega arith)
 
-    pub running-on : {t' d' c' : ℕ} → r ≡ To t' d' c' → Running ops stack' s' t' d' c' (k + 1)
+    pub running-on : {t' d' c' : ℕ} → r ≡ Ok (t', d', c') → Running ops stack' s' t' d' c' (k + 1)
     running-on {t'} {d'} {c'} e = record {
       within = omega arith;
       rest = rw (add-one k) (next ∙ ap (λ (o : Outcome Machine). and_then o (operations (ops_from ops (suc k) (length ops / 2 - (k + 1))))) (x.to t' d' c' e) ∙ left);
@@ -105,16 +103,16 @@ module _ {ops stack s : List ℕ} {t d count k : ℕ} (g : Running ops stack s t
             ≡ operations (ops_from ops (suc k) (length ops / 2 - suc k)) (machine_of ops stack' s' t' d' c')
         left = ap (λ (j : ℕ). operations (ops_from ops (suc k) (length ops / 2 - j)) (machine_of ops stack' s' t' d' c')) (add-one k)
 
-    pub running-stop : (s₀ : List ℕ) {w : Refusal} {c : ℕ} → r ≡ Refused w c → Ran limit (build (whole_ops ops)) s₀ 0 (StepRefused w c) s' heads' links' index'
+    pub running-stop : (s₀ : List ℕ) {w : Refusal} {c : ℕ} → r ≡ Err (w, c) → Ran limit (build (whole_ops ops)) s₀ 0 (Err (w, c)) s' heads' links' index'
     running-stop s₀ {w} {c} e =
-        let z : Space s' heads' links' c = subst (λ (y : Moved). Space s' heads' links' (rows_then y)) e x.space in
+        let z : Space s' heads' links' c = subst (λ (y : Result (ℕ × ℕ × ℕ) (Refusal × ℕ)). Space s' heads' links' (rows_then y)) e x.space in
         ran-refused z x.clean
         (λ f. build-is ops s₀ (next ∙ ap (λ (o : Outcome Machine). and_then o (operations (ops_from ops (suc k) (length ops / 2 - (k + 1))))) (x.refusal w c e f)))
 
     pub running-ready : {plan plan' index heads links : List ℕ} → Ready plan index limit s heads links count → length plan' ≡ length plan
-        → {t' d' c' : ℕ} → r ≡ To t' d' c' → Ready plan' index' limit s' heads' links' c'
+        → {t' d' c' : ℕ} → r ≡ Ok (t', d', c') → Ready plan' index' limit s' heads' links' c'
     running-ready a l {t'} {d'} {c'} e = record {
-      space = subst (λ (y : Moved). Space s' heads' links' (rows_then y)) e x.space;
+      space = subst (λ (y : Result (ℕ × ℕ × ℕ) (Refusal × ℕ)). Space s' heads' links' (rows_then y)) e x.space;
       clean = x.clean;
       words = omega (arith, a.words);
       most = a.most;
@@ -125,22 +123,23 @@ module _ {ops stack s : List ℕ} {t d count k : ℕ} (g : Running ops stack s t
     done : operations (whole_ops ops) empty ≡ ok (machine_of ops stack s t d count)
     done = g.rest ∙ ops-none ops k (length ops / 2 - k) (machine_of ops stack s t d count) (omega arith)
 
-    pub running-open : (t ≡ 0 → ⊥) → Ran limit (build (whole_ops ops)) s₀ 0 (StepRefused Form count) s heads links index
+    pub running-open : (t ≡ 0 → ⊥) → Ran limit (build (whole_ops ops)) s₀ 0 (Err (Form, count)) s heads links index
     running-open n = ran-refused ready.space ready.clean (λ x. build-is ops s₀ done ∙ lone-open ops stack s (t - 1) t d count (omega arith))
 
     module _ (e : t ≡ 0) where
-      pub running-many : (d ≡ 1 → ⊥) → Ran limit (build (whole_ops ops)) s₀ 0 (StepRefused Form count) s heads links index
+      pub running-many : (d ≡ 1 → ⊥) → Ran limit (build (whole_ops ops)) s₀ 0 (Err (Form, count)) s heads links index
       running-many n =
           ran-refused ready.space ready.clean
           (λ x. build-is ops s₀ done ∙ ap (λ (u : ℕ). ending (machine_of ops stack s u d count)) e ∙ lone-not ops stack s d count n)
 
-      pub running-end : d ≡ 1 → Ran limit (build (whole_ops ops)) s₀ 0 (Row (get_or stack most_tests 0) count) s heads links index
+      pub running-end : d ≡ 1 → Ran limit (build (whole_ops ops)) s₀ 0 (Ok ((get_or stack most_tests 0), count)) s heads links index
       running-end f = record {
         space = ready.space;
         clean = ready.clean;
         row = λ i n q.
-            let a : get_or stack most_tests 0 ≡ i = cc in
-            let b : count ≡ n = cc in
+            let p : ◌≡◌ {A = ℕ × ℕ} (get_or stack most_tests 0, count) (i, n) = cc in
+            let a = ap (λ (p : ℕ × ℕ). p.0) p in
+            let b = ap (λ (p : ℕ × ℕ). p.1) p in
             subst (λ (y : ℕ). Gave (build (whole_ops ops)) s₀ 0 i y s) b (subst (λ (y : ℕ). Gave (build (whole_ops ops)) s₀ 0 y count s) a all);
         refusal = λ w n q x. let y : ◌≡◌ {A = ℕ} 0 1 = cc in absurd (omega arith);
       }

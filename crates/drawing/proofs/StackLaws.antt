@@ -21,23 +21,18 @@ use Rattle.diagram.specs.Diagram.{Diagram, leaf}
 use Rattle.diagram.specs.Validity.{tree}
 use Rattle.plan.specs.Plan.{Clean}
 use Rattle.apply.specs.Formed.{add}
-use Rattle.store.specs.declared.Formed.{Formed}
-use Rattle.store.specs.declared.Formed.TheVariants.{Row as FormedRow, Full}
 use Rattle.store.specs.Space.{diagrams_of, Formation}
 use Rattle.row_steps.specs.RunLaws.{formed-ran, full-ran, leaf-onto, row-known, full-known}
-use Rattle.row_steps.specs.declared.Stepped.{Stepped}
-use Rattle.row_steps.specs.declared.Stepped.TheVariants.{Row, Refused as StepRefused}
 use Rattle.refusal.specs.Outcome.{ok, refused}
 use Rattle.regression.specs.Calls.{Run, form}
 use Rattle.regression.specs.Step.{test_diagram, row_step}
 use Rattle.row_steps.specs.Running.{Space, Ready, Two, Testable, Gave, Final, Ran, count_then}
-use Rattle.drawing.specs.declared.Moved.{Moved}
-use Rattle.drawing.specs.declared.Moved.TheVariants.{To, Refused}
 use Rattle.build.specs.Machine.{Machine, most_tests, most_results, given, closing, operation}
 use Rattle.drawing.specs.Stacks.{Ops, test_at, tests_of, results_of, machine_of, Stacked, Moves}
 use Rattle.reading.specs.Operations.{Op}
 use Rattle.reading.specs.Operations.Op.{ask, leaf_op, step}
 use Rattle.reader.specs.OperationWords.{op_at, op_of}
+use Rattle.std.specs.Prelude.{Err, None, Ok, Option, Result, Some}
 
 -- `test_at`
 pub test-is : (ops : List ℕ) (k : ℕ) → get_or ops (k * 2) 0 ≡ 1 → Is (record { packed = get_or ops (k * 2 + 1) 0 }) ≡ test_at ops k
@@ -130,7 +125,8 @@ testable {ops} o k h = record { label = λ l q. go l (cmp (get_or ops (k * 2) 0)
 -- a step is the row step of the latest test and the two latest results
 step_is : (ops stack s : List ℕ) (tests results count t d low : ℕ) → tests ≡ suc t → results ≡ suc (suc d) → low ≡ most_tests + suc d
     → operation step (machine_of ops stack s tests results count)
-    ≡ given (tests_of ops stack t) (results_of s stack d) (row_step (test_diagram (test_at ops (get_or stack t 0))) (tree s (get_or stack (most_tests + d) 0)) (tree s (get_or stack low 0)) (diagrams_of s count))
+    ≡ given (tests_of ops stack t) (results_of s stack d)
+    (row_step (test_diagram (test_at ops (get_or stack t 0))) (tree s (get_or stack (most_tests + d) 0)) (tree s (get_or stack low 0)) (diagrams_of s count))
 unfolding operation closing tests_of results_of
 step_is ops stack s tests results count t d low e f g = rw (e, f, g)
 
@@ -146,32 +142,37 @@ few-step ops stack s t (suc (suc d)) count h = absurd (omega arith)
 
 -- an operation refused, the space as it stands
 stays-refused : {limit : ℕ} {o : Op} {m : Machine} {ops stack s heads links index : List ℕ} {w : Refusal} {count : ℕ} → Space s heads links count → Clean index
-    → (Final limit w → operation o m ≡ refused w) → Moves limit o m ops (Refused w count) stack s heads links index
-stays-refused {limit} {o} {m} {w = w} z c e = record {
+    → (Final limit w → operation o m ≡ refused w) → Moves limit o m ops (Err (w, count)) stack s heads links index
+stays-refused {limit} {o} {m} {w = w} {count = count} z c e = record {
   space = z;
   clean = c;
   to = λ t d n q. let y : ◌≡◌ {A = ℕ} 0 1 = cc in absurd (omega arith);
   stacked = λ t d n q. let y : ◌≡◌ {A = ℕ} 0 1 = cc in absurd (omega arith);
-  refusal = λ v n q. let y : w ≡ v = cc in subst (λ (u : Refusal). Final limit u → operation o m ≡ refused u) y e;
+  refusal = λ v n q.
+      let z : ◌≡◌ {A = Refusal × ℕ} (w, count) (v, n) = cc in
+      let y : w ≡ v = ap (λ (z : Refusal × ℕ). z.0) z in
+      subst (λ (u : Refusal). Final limit u → operation o m ≡ refused u) y e;
 }
 
 -- an operation that went
 went : {limit : ℕ} {o : Op} {m : Machine} {ops stack s heads links index : List ℕ} {t d c : ℕ} → Space s heads links c → Clean index
-    → operation o m ≡ ok (machine_of ops stack s t d c) → Stacked ops stack t d c → Moves limit o m ops (To t d c) stack s heads links index
+    → operation o m ≡ ok (machine_of ops stack s t d c) → Stacked ops stack t d c → Moves limit o m ops (Ok (t, d, c)) stack s heads links index
 went {limit} {o} {m} {ops} {stack} {s} {t = t} {d = d} {c = c} z k e h = record {
   space = z;
   clean = k;
   to = λ t' d' c' q.
-      let a : t ≡ t' = cc in
-      let b : d ≡ d' = cc in
-      let n : c ≡ c' = cc in
+      let w : ◌≡◌ {A = ℕ × ℕ × ℕ} (t, d, c) (t', d', c') = cc in
+      let a : t ≡ t' = ap (λ (w : ℕ × ℕ × ℕ). w.0) w in
+      let b : d ≡ d' = ap (λ (w : ℕ × ℕ × ℕ). w.1) w in
+      let n : c ≡ c' = ap (λ (w : ℕ × ℕ × ℕ). w.2) w in
       let x : operation o m ≡ ok (machine_of ops stack s t' d c) = subst (λ (x : ℕ). operation o m ≡ ok (machine_of ops stack s x d c)) a e in
       let y : operation o m ≡ ok (machine_of ops stack s t' d' c) = subst (λ (x : ℕ). operation o m ≡ ok (machine_of ops stack s t' x c)) b x in
       subst (λ (x : ℕ). operation o m ≡ ok (machine_of ops stack s t' d' x)) n y;
   stacked = λ t' d' c' q.
-      let a : t ≡ t' = cc in
-      let b : d ≡ d' = cc in
-      let n : c ≡ c' = cc in
+      let w : ◌≡◌ {A = ℕ × ℕ × ℕ} (t, d, c) (t', d', c') = cc in
+      let a : t ≡ t' = ap (λ (w : ℕ × ℕ × ℕ). w.0) w in
+      let b : d ≡ d' = ap (λ (w : ℕ × ℕ × ℕ). w.1) w in
+      let n : c ≡ c' = ap (λ (w : ℕ × ℕ × ℕ). w.2) w in
       subst (λ (x : ℕ). Stacked ops stack t' d' x) n (subst (λ (x : ℕ). Stacked ops stack t' x c) b (subst (λ (x : ℕ). Stacked ops stack x d c) a h));
   refusal = λ w n q x. let y : ◌≡◌ {A = ℕ} 0 1 = cc in absurd (omega arith);
 }
@@ -179,11 +180,11 @@ went {limit} {o} {m} {ops} {stack} {s} {t = t} {d = d} {c = c} z k e h = record 
 -- `close`
 module _ {ops stack plan index : List ℕ} {limit : ℕ} {s heads links : List ℕ} {tests results count : ℕ} (o : Ops ops) (k : Stacked ops stack tests results count)
     (ready : Ready plan index limit s heads links count) where
-  pub close-untested : tests ≡ 0 → Moves limit step (machine_of ops stack s tests results count) ops (Refused Form count) stack s heads links index
+  pub close-untested : tests ≡ 0 → Moves limit step (machine_of ops stack s tests results count) ops (Err (Form, count)) stack s heads links index
   close-untested e =
       stays-refused ready.space ready.clean (λ x. ap (λ (t : ℕ). operation step (machine_of ops stack s t results count)) e ∙ untested ops stack s results count)
 
-  pub close-few : (tests ≡ 0 → ⊥) → results < 2 → Moves limit step (machine_of ops stack s tests results count) ops (Refused Form count) stack s heads links index
+  pub close-few : (tests ≡ 0 → ⊥) → results < 2 → Moves limit step (machine_of ops stack s tests results count) ops (Err (Form, count)) stack s heads links index
   close-few n h =
       let e : tests ≡ suc (tests - 1) = omega arith in
       stays-refused ready.space ready.clean
@@ -202,7 +203,7 @@ module _ {ops stack plan index : List ℕ} {limit : ℕ} {s heads links : List �
           let e : most_tests + (results - 2) + 1 ≡ most_tests + (results - 1) = omega arith in
           record { first = k.there (results - 2) (omega arith); second = rw e (k.there (results - 1) (omega arith)) }
 
-      module _ {test : Test} (q : test ≡ test_at ops (get_or stack (tests - 1) 0)) {r : Stepped} {s' heads' links' index' : List ℕ}
+      module _ {test : Test} (q : test ≡ test_at ops (get_or stack (tests - 1) 0)) {r : Result (ℕ × ℕ) (Refusal × ℕ)} {s' heads' links' index' : List ℕ}
           (x : Ran limit (row_step (test_diagram test) (tree s (get_or stack (most_tests + (results - 2)) 0)) (tree s (get_or stack (most_tests + (results - 2) + 1) 0))) s count r
           s' heads' links' index') where
         abbrev run : Run Diagram
@@ -214,20 +215,20 @@ module _ {ops stack plan index : List ℕ} {limit : ℕ} {s heads links : List �
             ∙ ap (λ (t : Test). given (tests_of ops stack (tests - 1)) (results_of s stack (results - 2))
             (row_step (test_diagram t) (tree s (get_or stack (most_tests + (results - 2)) 0)) (tree s (get_or stack (most_tests + (results - 2) + 1) 0)) (diagrams_of s count))) (sym q)
 
-        pub close_row : {i c : ℕ} → r ≡ Row i c
-            → Moves limit step (machine_of ops stack s tests results count) ops (To (tests - 1) (results - 1) c) (set stack (most_tests + (results - 2)) i) s' heads' links' index'
+        pub close_row : {i c : ℕ} → r ≡ Ok (i, c)
+            → Moves limit step (machine_of ops stack s tests results count) ops (Ok ((tests - 1), (results - 1), c)) (set stack (most_tests + (results - 2)) i) s' heads' links' index'
         close_row {i} {c} e =
             let g : Gave run s count i c s' = x.row i c e in
-            let z : Space s' heads' links' c = subst (λ (y : Stepped). Space s' heads' links' (count_then y)) e x.space in
+            let z : Space s' heads' links' c = subst (λ (y : Result (ℕ × ℕ) (Refusal × ℕ)). Space s' heads' links' (count_then y)) e x.space in
             let f : results - 2 + 1 ≡ results - 1 = omega arith in
-            subst (λ (y : ℕ). Moves limit step (machine_of ops stack s tests results count) ops (To (tests - 1) y c) (set stack (most_tests + (results - 2)) i) s' heads' links' index') f
+            subst (λ (y : ℕ). Moves limit step (machine_of ops stack s tests results count) ops (Ok ((tests - 1), y, c)) (set stack (most_tests + (results - 2)) i) s' heads' links' index') f
             (went z x.clean (close-is ∙ pushed k (tests - 1) (results - 2) (omega arith) (omega arith) (omega (arith, k.few-results)) run g)
             (pushed-stacked k (tests - 1) (results - 2) (omega arith) (omega arith) (omega (arith, k.few-results)) run g))
 
-        pub close-refused : {w : Refusal} {c : ℕ} → r ≡ StepRefused w c
-            → Moves limit step (machine_of ops stack s tests results count) ops (Refused w c) stack s' heads' links' index'
+        pub close-refused : {w : Refusal} {c : ℕ} → r ≡ Err (w, c)
+            → Moves limit step (machine_of ops stack s tests results count) ops (Err (w, c)) stack s' heads' links' index'
         close-refused {w} {c} e =
-            let z : Space s' heads' links' c = subst (λ (y : Stepped). Space s' heads' links' (count_then y)) e x.space in
+            let z : Space s' heads' links' c = subst (λ (y : Result (ℕ × ℕ) (Refusal × ℕ)). Space s' heads' links' (count_then y)) e x.space in
             stays-refused z x.clean (λ f. close-is ∙ ap (given (tests_of ops stack (tests - 1)) (results_of s stack (results - 2))) (x.refusal w c e f))
 
 -- `run_op`: which operation it is
@@ -300,7 +301,7 @@ ask-stacked {ops} {stack} {t} {d} {count} x k h l = record {
     places j q (equal z) = rw (z, get_or-set_same stack t k 0 (omega (arith, x.words))) h
     places j q (above z) = absurd (omega arith)
 
-moves-as : {limit : ℕ} {o p : Op} {m : Machine} {ops : List ℕ} {r : Moved} {stack s heads links index : List ℕ} → p ≡ o
+moves-as : {limit : ℕ} {o p : Op} {m : Machine} {ops : List ℕ} {r : Result (ℕ × ℕ × ℕ) (Refusal × ℕ)} {stack s heads links index : List ℕ} → p ≡ o
     → Moves limit o m ops r stack s heads links index → Moves limit p m ops r stack s heads links index
 moves-as {limit} {m = m} {ops = ops} {r = r} {stack = stack} {s = s} {heads = heads} {links = links} {index = index} e x =
     subst (λ (y : Op). Moves limit y m ops r stack s heads links index) (sym e) x
@@ -308,13 +309,13 @@ moves-as {limit} {m = m} {ops = ops} {r = r} {stack = stack} {s = s} {heads = he
 module _ {ops stack plan index : List ℕ} {limit : ℕ} {s heads links : List ℕ} {tests results count : ℕ} (k : ℕ) (o : Ops ops) (here : k * 2 + 2 ≤ length ops)
     (x : Stacked ops stack tests results count) (ready : Ready plan index limit s heads links count) where
   module _ (e : get_or ops (k * 2) 0 ≡ 0) where
-    pub leaf-many : most_results ≤ results → Moves limit (op_at ops k) (machine_of ops stack s tests results count) ops (Refused Form count) stack s heads links index
+    pub leaf-many : most_results ≤ results → Moves limit (op_at ops k) (machine_of ops stack s tests results count) ops (Err (Form, count)) stack s heads links index
     leaf-many h = moves-as (op-leaf ops k e) (stays-refused ready.space ready.clean (λ f. many-results ops stack s (get_or ops (k * 2 + 1) 0) tests results count h))
 
-    module _ (h : results < most_results) {r : Formed} {s' heads' links' : List ℕ}
+    module _ (h : results < most_results) {r : Option (ℕ × ℕ)} {s' heads' links' : List ℕ}
         (f : Formation (leaf (get_or ops (k * 2 + 1) 0)) (add (leaf (get_or ops (k * 2 + 1) 0)) (diagrams_of s count)) r s' heads' links') where
-      pub leaf-row : {i c : ℕ} → r ≡ FormedRow i c
-          → Moves limit (op_at ops k) (machine_of ops stack s tests results count) ops (To tests (results + 1) c) (set stack (most_tests + results) i) s' heads' links' index
+      pub leaf-row : {i c : ℕ} → r ≡ Some (i, c)
+          → Moves limit (op_at ops k) (machine_of ops stack s tests results count) ops (Ok (tests, (results + 1), c)) (set stack (most_tests + results) i) s' heads' links' index
       leaf-row {i} {c} q =
           let v : ℕ = get_or ops (k * 2 + 1) 0 in
           let z = formed-ran s count (leaf v) {limit = limit} (o.values k here e) ready.space.values ready.clean (row-known (leaf-onto s count f) q) in
@@ -323,7 +324,7 @@ module _ {ops stack plan index : List ℕ} {limit : ℕ} {s heads links : List �
           (went z.space z.clean (leaf-is ops stack s v tests results count h ∙ pushed x tests results (omega arith) (omega arith) h (form (leaf v)) g)
           (pushed-stacked x tests results (omega arith) (omega arith) h (form (leaf v)) g))
 
-      pub leaf-full : r ≡ Full → Moves limit (op_at ops k) (machine_of ops stack s tests results count) ops (Refused NoSpace space_rows) stack s' heads' links' index
+      pub leaf-full : r ≡ None → Moves limit (op_at ops k) (machine_of ops stack s tests results count) ops (Err (NoSpace, space_rows)) stack s' heads' links' index
       leaf-full q =
           let v : ℕ = get_or ops (k * 2 + 1) 0 in
           let z = full-ran s count (leaf v) {limit = limit} (o.values k here e) ready.space.values ready.clean (full-known (leaf-onto s count f) q) in
@@ -332,16 +333,16 @@ module _ {ops stack plan index : List ℕ} {limit : ℕ} {s heads links : List �
           (λ g. leaf-is ops stack s v tests results count h ∙ ap (given (tests_of ops stack tests) (results_of s stack results)) (z.refusal NoSpace 2048 refl g)))
 
   module _ (n : get_or ops (k * 2) 0 ≡ 0 → ⊥) where
-    pub step-moves : 3 ≤ get_or ops (k * 2) 0 → {r : Moved} {stack' s' heads' links' index' : List ℕ}
+    pub step-moves : 3 ≤ get_or ops (k * 2) 0 → {r : Result (ℕ × ℕ × ℕ) (Refusal × ℕ)} {stack' s' heads' links' index' : List ℕ}
         → Moves limit step (machine_of ops stack s tests results count) ops r stack' s' heads' links' index'
         → Moves limit (op_at ops k) (machine_of ops stack s tests results count) ops r stack' s' heads' links' index'
     step-moves e y = moves-as (op-step ops k e) y
 
     module _ (m : get_or ops (k * 2) 0 < 3) where
-      pub ask-many : most_tests ≤ tests → Moves limit (op_at ops k) (machine_of ops stack s tests results count) ops (Refused Form count) stack s heads links index
+      pub ask-many : most_tests ≤ tests → Moves limit (op_at ops k) (machine_of ops stack s tests results count) ops (Err (Form, count)) stack s heads links index
       ask-many h = moves-as (op-ask ops k n m) (stays-refused ready.space ready.clean (λ f. many-tests ops stack s (test_at ops k) tests results count h))
 
-      pub ask-went : tests < most_tests → Moves limit (op_at ops k) (machine_of ops stack s tests results count) ops (To (tests + 1) results count) (set stack tests k) s heads links index
+      pub ask-went : tests < most_tests → Moves limit (op_at ops k) (machine_of ops stack s tests results count) ops (Ok ((tests + 1), results, count)) (set stack tests k) s heads links index
       ask-went h =
           moves-as (op-ask ops k n m)
           (went ready.space ready.clean (ask-is ops stack s k tests results count h (omega (arith, x.words))) (ask-stacked x k here h))

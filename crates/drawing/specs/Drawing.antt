@@ -15,9 +15,10 @@ use Rattle.reading.specs.Reading.{Environment, arguments, reading}
 use Rattle.reading.specs.Numbering.{reward_reading}
 use Rattle.reader.specs.declared.Scope.{Scope}
 use Rattle.reader.specs.Callers.{argument_count, Tables, Variables}
-use Rattle.drawing.specs.declared.Built.{Built}
 use Rattle.build.specs.Machine.{built, built_closed, most_tests}
 use Rattle.drawing.specs.Writing.{built_as}
+use Rattle.refusal.specs.declared.Refusal.{Refusal}
+use Rattle.std.specs.Prelude.{Result}
 
 -- the words es, the arguments vs known before them
 unfoldable pub drawn : Environment → List Event → List Key → Outcome Diagram
@@ -52,6 +53,6 @@ pub record Holds (ar : List ℕ) (d : Diagram) (out : List ℕ) : Type 0 where
   pub good : Good ar d
 
 -- what is promised: the answer, and the result in the buffer
-pub record Draws (ar : List ℕ) (o : Outcome Diagram) (r : Built) (out : List ℕ) : Type 0 where
+pub record Draws (ar : List ℕ) (o : Outcome Diagram) (r : Result ℕ Refusal) (out : List ℕ) : Type 0 where
   pub answer : r ≡ built_as o
   pub result : (d : Diagram) → o ≡ ok d → Holds ar d out

@@ -33,7 +33,3 @@ unfoldable pub drawn_to : Ending → Environment → List Event → List Key →
 unfolding drawn drawn_closed
 drawn_to Plain σ es vs = drawn σ es vs
 drawn_to Closed σ es vs = drawn_closed σ es
-
--- a line of at most as many bytes is short
-abbrev pub short_line : ℕ
-short_line = 255

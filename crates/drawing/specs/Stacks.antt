@@ -12,11 +12,10 @@ use Rattle.plan.specs.Plan.{Clean}
 use Rattle.store.specs.Space.{diagrams_of}
 use Rattle.refusal.specs.Outcome.{ok, refused}
 use Rattle.row_steps.specs.Running.{Space, Final}
-use Rattle.drawing.specs.declared.Moved.{Moved}
-use Rattle.drawing.specs.declared.Moved.TheVariants.{To, Refused}
 use Rattle.build.specs.Machine.{Machine, most_tests, most_results, operation}
 use Rattle.reading.specs.Operations.{Op}
 use Rattle.reader.specs.OperationWords.{op_at}
+use Rattle.std.specs.Prelude.{Err, Ok, Result}
 
 -- what the operation k asks, where it asks
 unfoldable pub test_at : List ℕ → ℕ → Test
@@ -64,14 +63,14 @@ pub record Stacked (ops stack : List ℕ) (t d count : ℕ) : Type 0 where
   pub there : (j : ℕ) → j < d → get_or stack (most_tests + j) 0 < count
 
 -- the rows in the space after an answer
-abbrev pub rows_then : Moved → ℕ
-rows_then (To t d c) = c
-rows_then (Refused w c) = c
+abbrev pub rows_then : Result (ℕ × ℕ × ℕ) (Refusal × ℕ) → ℕ
+rows_then (Ok (t, d, c)) = c
+rows_then (Err (w, c)) = c
 
 -- what running one operation with room for `limit` pairs ensures; a refusal for pairs is the machine's own only where there is room for all
-pub record Moves (limit : ℕ) (o : Op) (m : Machine) (ops : List ℕ) (r : Moved) (stack s heads links index : List ℕ) : Type 0 where
+pub record Moves (limit : ℕ) (o : Op) (m : Machine) (ops : List ℕ) (r : Result (ℕ × ℕ × ℕ) (Refusal × ℕ)) (stack s heads links index : List ℕ) : Type 0 where
   pub space : Space s heads links (rows_then r)
   pub clean : Clean index
-  pub to : (t d c : ℕ) → r ≡ To t d c → operation o m ≡ ok (machine_of ops stack s t d c)
-  pub stacked : (t d c : ℕ) → r ≡ To t d c → Stacked ops stack t d c
-  pub refusal : (w : Refusal) (c : ℕ) → r ≡ Refused w c → Final limit w → operation o m ≡ refused w
+  pub to : (t d c : ℕ) → r ≡ Ok (t, d, c) → operation o m ≡ ok (machine_of ops stack s t d c)
+  pub stacked : (t d c : ℕ) → r ≡ Ok (t, d, c) → Stacked ops stack t d c
+  pub refusal : (w : Refusal) (c : ℕ) → r ≡ Err (w, c) → Final limit w → operation o m ≡ refused w

@@ -12,13 +12,10 @@ use Rattle.refusal.specs.declared.Refusal.{Refusal}
 use Rattle.refusal.specs.Outcome.{Outcome, ok, refused}
 use Rattle.regression.specs.RegressCall.{written_as}
 use Rattle.reading.specs.Operations.{Op}
-use Rattle.row_steps.specs.declared.Stepped.{Stepped}
-use Rattle.row_steps.specs.declared.Stepped.TheVariants.{Row, Refused as StepRefused}
 use Rattle.row_steps.specs.Running.{Final}
 use Rattle.build.specs.Machine.{build}
-use Rattle.drawing.specs.declared.Built.{Built}
-use Rattle.drawing.specs.declared.Built.TheVariants.{Done, Refused}
 use Rattle.drawing.specs.Stacks.{Ops}
+use Rattle.std.specs.Prelude.{Err, Ok, Result}
 
 -- the first n operations of the words: values up to 10^18, labels below a leaf's mark; and room for a result and for the rows formed
 pub record Buildable (ops : List ℕ) (n : ℕ) (out work : List ℕ) : Type 0 where
@@ -43,12 +40,12 @@ pub record Under (ar ops : List ℕ) : Type 0 where
   pub arities : are_arities ar ≡ true
   pub labels : (k : ℕ) → k * 2 + 2 ≤ length ops → get_or ops (k * 2) 0 ≡ 1 → is_label ar (get_or ops (k * 2 + 1) 0) ≡ true
 
-abbrev pub built_as : Outcome Diagram → Built
-built_as (ok d) = Done (length (rows d))
-built_as (refused w) = Refused w
+abbrev pub built_as : Outcome Diagram → Result ℕ Refusal
+built_as (ok d) = Ok (length (rows d))
+built_as (refused w) = Err w
 
 -- the answer, and the result buffer then: words behind a result stay, and a refusal changes none
-pub record BuildAnswered (o : Outcome Diagram) (out : List ℕ) (r : Built) (out' : List ℕ) : Type 0 where
+pub record BuildAnswered (o : Outcome Diagram) (out : List ℕ) (r : Result ℕ Refusal) (out' : List ℕ) : Type 0 where
   pub answer : r ≡ built_as o
   pub words : out' ≡ written_as o out
 
@@ -74,6 +71,6 @@ pub record BuiltRow (os : List Op) (s : List ℕ) (count root : ℕ) : Type 0 wh
   pub gives : build os [] ≡ ok (tree s root, diagrams_of s count)
 
 -- what it ensures: the row of what is built, or the refusal; one for pairs is the machine's own only where there is room for all
-pub record Builds (limit : ℕ) (os : List Op) (r : Stepped) (s : List ℕ) : Type 0 where
-  pub row : (root count : ℕ) → r ≡ Row root count → BuiltRow os s count root
-  pub refusal : (w : Refusal) (count : ℕ) → r ≡ StepRefused w count → Final limit w → build os [] ≡ refused w
+pub record Builds (limit : ℕ) (os : List Op) (r : Result (ℕ × ℕ) (Refusal × ℕ)) (s : List ℕ) : Type 0 where
+  pub row : (root count : ℕ) → r ≡ Ok (root, count) → BuiltRow os s count root
+  pub refusal : (w : Refusal) (count : ℕ) → r ≡ Err (w, count) → Final limit w → build os [] ≡ refused w

@@ -1,4 +1,5 @@
 // The diagram that stands on a line: its words read into operations, and these built in one working space. What it is stands in specs/.
+// An operation answers the tests and results on the stacks and the rows in the space then; or why it is refused, and the rows then.
 #![tactic(auto)]
 
 ghost use Rattle.std.specs.Prelude.{◌≡◌, ◌+◌, ◌*◌, ◌≤◌, length, drop};
@@ -20,15 +21,12 @@ ghost use Rattle.build.specs.Machine.{build, built, built_closed};
 ghost use Rattle.drawing.specs.Stacks.{Ops, test_at, whole_ops, Stacked, machine_of, Moves};
 ghost use Rattle.drawing.specs.Writing.{RowWritable, BuildAnswered, Callable, Under, Buildable, Labelled, Roomy, Builds};
 ghost use Rattle.drawing.specs.Drawing.{drawn, drawn_closed, Drawable, Draws};
-ghost use Rattle.drawing.specs.Endings.{built_to, known_to, Allows, drawn_to, short_line};
+ghost use Rattle.drawing.specs.Endings.{built_to, known_to, Allows, drawn_to};
 
 use apply::Combined;
 use label::{Label, Test};
-use reader::{Read, Scope};
+use reader::{Known, Scope};
 use refusal::Refusal;
-use row_steps::Stepped;
-use store::Formed;
-use write::Listed;
 
 // Tests that are asked and not stepped yet, at most: a bracket is open for each.
 const TESTS: usize = 64;
@@ -38,20 +36,6 @@ const RESULTS: usize = 65;
 
 // Words of the stack of tests, and of the stack of results behind it.
 const STACK_WORDS: usize = 129;
-
-// What building a line's diagram answers: its rows, or why it is refused.
-#[derive(Clone, Copy)]
-pub enum Built {
-    Done(usize),
-    Refused(Refusal),
-}
-
-// What running an operation answers: the tests and results on the stacks and the rows in the space then; or why it is refused, and the rows then.
-#[derive(Clone, Copy)]
-pub enum Moved {
-    To(usize, usize, usize),
-    Refused(Refusal, usize),
-}
 
 // The bytes of a short line, at most, and words for the operations of one: two for each byte.
 const SHORT_LINE: usize = 255;
@@ -94,32 +78,27 @@ fn close(
     tests: usize,
     results: usize,
     count: usize,
-) -> Moved
+) -> Result<(usize, usize, usize), (Refusal, usize)>
     requires ops { Ops ops.now }
     requires stacked { Stacked ops.now stack.old tests results count }
     requires ready { Ready plan.old index.old limit space.old heads.old links.old count }
     ensures { Moves limit step (machine_of ops.now stack.old space.old tests results count) ops.now result stack.new space.new heads.new links.new index.new }
 {
     if tests == 0 {
-        return Moved::Refused(Refusal::Form, count);
+        return Err((Refusal::Form, count));
     }
     if results < 2 {
-        return Moved::Refused(Refusal::Form, count);
+        return Err((Refusal::Form, count));
     }
     let test = test_at(ops, stack[tests - 1] as usize);
     let at = TESTS + (results - 2);
     let high = stack[at] as usize;
     let low = stack[at + 1] as usize;
-    let r = row_steps::test_step(
+    let (i, n) = row_steps::test_step(
         plan, index, limit, space, heads, links, count, test, high, low,
-    );
-    match r {
-        Stepped::Row(i, n) => {
-            stack[at] = i as u64;
-            Moved::To(tests - 1, results - 1, n)
-        }
-        Stepped::Refused(w, n) => Moved::Refused(w, n),
-    }
+    )?;
+    stack[at] = i as u64;
+    Ok((tests - 1, results - 1, n))
 }
 
 // Runs the operation k.
@@ -136,7 +115,7 @@ fn run_op(
     tests: usize,
     results: usize,
     count: usize,
-) -> Moved
+) -> Result<(usize, usize, usize), (Refusal, usize)>
     requires ops { Ops ops.now }
     requires k_in_bounds { k * 2 + 2 ≤ length ops.now }
     requires stacked { Stacked ops.now stack.old tests results count }
@@ -146,13 +125,14 @@ fn run_op(
     let kind = ops[k * 2];
     if kind == 0 {
         if results >= RESULTS {
-            return Moved::Refused(Refusal::Form, count);
+            return Err((Refusal::Form, count));
         }
-        let Formed::Row(i, n) = store::leaf(space, heads, links, count, ops[k * 2 + 1]) else {
-            return Moved::Refused(Refusal::Space, diagram::SPACE_ROWS);
-        };
+        let (i, n) = store::leaf(space, heads, links, count, ops[k * 2 + 1]).ok_or((
+            Refusal::Space,
+            diagram::SPACE_ROWS,
+        ))?;
         stack[TESTS + results] = i as u64;
-        return Moved::To(tests, results + 1, n);
+        return Ok((tests, results + 1, n));
     }
     if kind >= 3 {
         return close(
@@ -160,10 +140,10 @@ fn run_op(
         );
     }
     if tests >= TESTS {
-        return Moved::Refused(Refusal::Form, count);
+        return Err((Refusal::Form, count));
     }
     stack[tests] = k as u64;
-    Moved::To(tests + 1, results, count)
+    Ok((tests + 1, results, count))
 }
 
 // Builds the diagram of the operations in an empty working space.
@@ -175,7 +155,7 @@ fn build_rows(
     space: &mut [u64],
     heads: &mut [u16],
     links: &mut [u16],
-) -> Stepped
+) -> Result<(usize, usize), (Refusal, usize)>
     requires ops { Ops ops.now }
     requires ready { Ready plan.old index.old limit space.old heads.old links.old 0 }
     ensures { Ran limit (build (whole_ops ops.now)) space.old 0 result space.new heads.new links.new index.new }
@@ -184,47 +164,37 @@ fn build_rows(
     let mut tests = 0;
     let mut results = 0;
     let mut count = 0;
-    let mut k = 0;
-    while k < ops.len() / 2 {
-        let r = run_op(
+    for k in 0..ops.len() / 2 {
+        (tests, results, count) = run_op(
             ops, k, &mut stack, plan, index, limit, space, heads, links, tests, results, count,
-        );
-        match r {
-            Moved::To(t, d, n) => {
-                tests = t;
-                results = d;
-                count = n;
-                k += 1;
-            }
-            Moved::Refused(w, n) => {
-                return Stepped::Refused(w, n);
-            }
-        }
+        )?;
     }
     if tests != 0 {
-        return Stepped::Refused(Refusal::Form, count);
+        return Err((Refusal::Form, count));
     }
     if results != 1 {
-        return Stepped::Refused(Refusal::Form, count);
+        return Err((Refusal::Form, count));
     }
-    Stepped::Row(stack[TESTS] as usize, count)
+    Ok((stack[TESTS] as usize, count))
 }
 
 // Writes the listing of the row `root`, unless it has too many rows.
-fn write_row(space: &[u64], count: usize, root: usize, out: &mut [u64]) -> Built
+fn write_row(space: &[u64], count: usize, root: usize, out: &mut [u64]) -> Result<usize, Refusal>
     requires { RowWritable space.now count root out.old }
     ensures { BuildAnswered (held (tree space.now root)) out.old result out.new }
 {
     let mut marks = [0u16; diagram::SPACE_ROWS];
     let mut order = [0u16; diagram::SPACE_ROWS];
-    let Listed::Rows(m) = write::write(space, count, root, &mut marks, &mut order, out) else {
-        return Built::Refused(Refusal::Space);
-    };
-    Built::Done(m)
+    write::write(space, count, root, &mut marks, &mut order, out).ok_or(Refusal::Space)
 }
 
 // Builds the diagram of the operations in an empty working space, with a plan that has room for `limit` pairs.
-fn build_in(ops: &[u64], plan: &mut [u64], limit: usize, work: &mut [u64]) -> Stepped
+fn build_in(
+    ops: &[u64],
+    plan: &mut [u64],
+    limit: usize,
+    work: &mut [u64],
+) -> Result<(usize, usize), (Refusal, usize)>
     requires ops { Ops ops.now }
     requires roomy { Roomy plan.old limit work.old }
     ensures { Builds limit (whole_ops ops.now) result work.new }
@@ -235,75 +205,82 @@ fn build_in(ops: &[u64], plan: &mut [u64], limit: usize, work: &mut [u64]) -> St
     build_rows(ops, plan, &mut index, limit, work, &mut heads, &mut links)
 }
 
-// With room for few pairs, which suffices for most lines.
-fn build_few(ops: &[u64], work: &mut [u64]) -> Stepped
+// The same, with a plan of so many words.
+fn build_with<const WORDS: usize>(
+    ops: &[u64],
+    limit: usize,
+    work: &mut [u64],
+) -> Result<(usize, usize), (Refusal, usize)>
+    requires room { limit * 5 ≤ WORDS }
+    requires words_le_most { WORDS ≤ most_pairs * 5 }
     requires ops { Ops ops.now }
     requires space_words_in_bounds { space_words ≤ length work.old }
-    ensures { Builds few (whole_ops ops.now) result work.new }
+    ensures { Builds limit (whole_ops ops.now) result work.new }
 {
-    let mut plan = [0u64; combine::FEW_WORDS];
-    build_in(ops, &mut plan, combine::FEW, work)
-}
-
-// With room for all pairs that a combination may have.
-fn build_many(ops: &[u64], work: &mut [u64]) -> Stepped
-    requires ops { Ops ops.now }
-    requires space_words_in_bounds { space_words ≤ length work.old }
-    ensures { Builds most_pairs (whole_ops ops.now) result work.new }
-{
-    let mut plan = [0u64; combine::PLAN_WORDS];
-    build_in(ops, &mut plan, diagram::PAIRS, work)
+    let mut plan = [0u64; WORDS];
+    build_in(ops, &mut plan, limit, work)
 }
 
 // Builds the diagram of the operations in the working space: with room for few pairs first, and where a step has more, all again with room for all.
-fn build_space(ops: &[u64], work: &mut [u64]) -> Stepped
+fn build_space(ops: &[u64], work: &mut [u64]) -> Result<(usize, usize), (Refusal, usize)>
     requires ops { Ops ops.now }
     requires space_words_in_bounds { space_words ≤ length work.old }
     ensures { Builds most_pairs (whole_ops ops.now) result work.new }
 {
-    let r = build_few(ops, work);
+    let r = build_with::<{ combine::FEW_WORDS }>(ops, combine::FEW, work);
     if row_steps::is_crowded(r) {
-        return build_many(ops, work);
+        return build_with::<{ combine::PLAN_WORDS }>(ops, diagram::PAIRS, work);
     }
     r
 }
 
 // Builds the diagram of the operations that the words hold and writes its listing.
-fn build_words(ops: &[u64], out: &mut [u64], work: &mut [u64]) -> Built
+fn build_words(ops: &[u64], out: &mut [u64], work: &mut [u64]) -> Result<usize, Refusal>
     requires { Callable ops.now out.old work.old }
     ensures { BuildAnswered (built (whole_ops ops.now)) out.old result out.new }
 {
     match build_space(ops, work) {
-        Stepped::Row(root, rows) => write_row(work, rows, root, out),
-        Stepped::Refused(why, _) => Built::Refused(why),
+        Ok((root, rows)) => write_row(work, rows, root, out),
+        Err((why, _)) => Err(why),
     }
 }
 
 // Writes the listing of the row `root`, closed up, unless it has too many rows.
-fn write_closed(arities: &[u64], space: &[u64], count: usize, root: usize, out: &mut [u64]) -> Built
+fn write_closed(
+    arities: &[u64],
+    space: &[u64],
+    count: usize,
+    root: usize,
+    out: &mut [u64],
+) -> Result<usize, Refusal>
     requires { Writable arities.now space.now count root out.old }
     ensures { BuildAnswered (held (closed arities.now (tree space.now root))) out.old result out.new }
 {
     match apart::write_result(arities, space, count, root, 0, out) {
-        Combined::Done(m, _) => Built::Done(m),
-        Combined::Refused(why) => Built::Refused(why),
+        Combined::Done(m, _) => Ok(m),
+        Combined::Refused(why) => Err(why),
     }
 }
 
 // The same, closed up.
-fn build_closed_words(arities: &[u64], ops: &[u64], out: &mut [u64], work: &mut [u64]) -> Built
+fn build_closed_words(
+    arities: &[u64],
+    ops: &[u64],
+    out: &mut [u64],
+    work: &mut [u64],
+) -> Result<usize, Refusal>
     requires under { Under arities.now ops.now }
     requires callable { Callable ops.now out.old work.old }
     ensures { BuildAnswered (built_closed arities.now (whole_ops ops.now)) out.old result out.new }
 {
     match build_space(ops, work) {
-        Stepped::Row(root, rows) => write_closed(arities, work, rows, root, out),
-        Stepped::Refused(why, _) => Built::Refused(why),
+        Ok((root, rows)) => write_closed(arities, work, rows, root, out),
+        Err((why, _)) => Err(why),
     }
 }
 
 // Builds the diagram of a line from its first n operations and writes its listing; `work` is the working space.
-pub fn build(ops: &[u64], n: usize, out: &mut [u64], work: &mut [u64]) -> Built
+pub fn build(ops: &[u64], n: usize, out: &mut [u64], work: &mut [u64]) -> Result<usize, Refusal>
     requires { Buildable ops.now n out.old work.old }
     ensures { BuildAnswered (built (ops_in ops.now n)) out.old result out.new }
 {
@@ -317,7 +294,7 @@ pub fn build_closed(
     n: usize,
     out: &mut [u64],
     work: &mut [u64],
-) -> Built
+) -> Result<usize, Refusal>
     requires labelled { Labelled arities.now ops.now n }
     requires buildable { Buildable ops.now n out.old work.old }
     ensures { BuildAnswered (built_closed arities.now (ops_in ops.now n)) out.old result out.new }
@@ -333,7 +310,7 @@ fn build_to(
     n: usize,
     out: &mut [u64],
     work: &mut [u64],
-) -> Built
+) -> Result<usize, Refusal>
     requires labelled { Labelled arities.now operations.now n }
     requires buildable { Buildable operations.now n out.old work.old }
     ensures { BuildAnswered (built_to ending arities.now (ops_in operations.now n)) out.old result out.new }
@@ -355,7 +332,7 @@ fn read_to(
     variables: &mut [u64],
     known: usize,
     operations: &mut [u64],
-) -> Read
+) -> Result<(usize, Known), Refusal>
     requires readable { Readable line.now at names.now arities.now variables.old operations.old scope (argument_count known) }
     requires allows { Allows ending scope }
     ensures { Reads (reading (names_of names.now arities.now scope) (events_of (drop at line.now)) (known_to ending (events_of (drop at line.now)) (keys_at variables.old 0 known))) result variables.new operations.new }
@@ -383,23 +360,20 @@ fn draw_in(
     operations: &mut [u64],
     out: &mut [u64],
     work: &mut [u64],
-) -> Built
+) -> Result<usize, Refusal>
     requires drawable { Drawable line.now at names.now arities.now scope variables.old known out.old work.old }
     requires line_in_bounds { length line.now * 2 ≤ length operations.old }
     requires allows { Allows ending scope }
     ensures { Draws arities.now (drawn_to ending (names_of names.now arities.now scope) (events_of (drop at line.now)) (keys_at variables.old 0 known)) result out.new }
 {
-    let read = read_to(
+    let (n, _) = read_to(
         ending, line, at, names, arities, scope, variables, known, operations,
-    );
-    match read {
-        Read::Done(n, _) => build_to(ending, arities, operations, n, out, work),
-        Read::Refused(why) => Built::Refused(why),
-    }
+    )?;
+    build_to(ending, arities, operations, n, out, work)
 }
 
-// A short line: little room is cleared for its operations.
-fn draw_short(
+// A line whose operations take so many words at most; a longest line's take 8,190.
+fn draw_with<const WORDS: usize>(
     ending: Ending,
     line: &[u8],
     at: usize,
@@ -410,46 +384,14 @@ fn draw_short(
     known: usize,
     out: &mut [u64],
     work: &mut [u64],
-) -> Built
+) -> Result<usize, Refusal>
     requires drawable { Drawable line.now at names.now arities.now scope variables.old known out.old work.old }
-    requires line_len_bound { length line.now ≤ short_line }
+    requires line_in_bounds { length line.now * 2 ≤ WORDS }
+    requires words_le_most { WORDS ≤ 8190 }
     requires allows { Allows ending scope }
     ensures { Draws arities.now (drawn_to ending (names_of names.now arities.now scope) (events_of (drop at line.now)) (keys_at variables.old 0 known)) result out.new }
 {
-    let mut operations = [0u64; SHORT_WORDS];
-    draw_in(
-        ending,
-        line,
-        at,
-        names,
-        arities,
-        scope,
-        variables,
-        known,
-        &mut operations,
-        out,
-        work,
-    )
-}
-
-// A line of any length.
-fn draw_long(
-    ending: Ending,
-    line: &[u8],
-    at: usize,
-    names: &[u64],
-    arities: &[u64],
-    scope: Scope,
-    variables: &mut [u64],
-    known: usize,
-    out: &mut [u64],
-    work: &mut [u64],
-) -> Built
-    requires drawable { Drawable line.now at names.now arities.now scope variables.old known out.old work.old }
-    requires allows { Allows ending scope }
-    ensures { Draws arities.now (drawn_to ending (names_of names.now arities.now scope) (events_of (drop at line.now)) (keys_at variables.old 0 known)) result out.new }
-{
-    let mut operations = [0u64; LINE_WORDS];
+    let mut operations = [0u64; WORDS];
     draw_in(
         ending,
         line,
@@ -477,17 +419,17 @@ fn draw_to(
     known: usize,
     out: &mut [u64],
     work: &mut [u64],
-) -> Built
+) -> Result<usize, Refusal>
     requires drawable { Drawable line.now at names.now arities.now scope variables.old known out.old work.old }
     requires allows { Allows ending scope }
     ensures { Draws arities.now (drawn_to ending (names_of names.now arities.now scope) (events_of (drop at line.now)) (keys_at variables.old 0 known)) result out.new }
 {
     if line.len() <= SHORT_LINE {
-        return draw_short(
+        return draw_with::<SHORT_WORDS>(
             ending, line, at, names, arities, scope, variables, known, out, work,
         );
     }
-    draw_long(
+    draw_with::<LINE_WORDS>(
         ending, line, at, names, arities, scope, variables, known, out, work,
     )
 }
@@ -504,7 +446,7 @@ pub fn draw(
     known: usize,
     out: &mut [u64],
     work: &mut [u64],
-) -> Built
+) -> Result<usize, Refusal>
     requires { Drawable line.now at names.now arities.now scope variables.old known out.old work.old }
     ensures { Draws arities.now (drawn (names_of names.now arities.now scope) (events_of (drop at line.now)) (keys_at variables.old 0 known)) result out.new }
 {
@@ -532,7 +474,7 @@ pub fn draw_closed(
     variables: &mut [u64],
     out: &mut [u64],
     work: &mut [u64],
-) -> Built
+) -> Result<usize, Refusal>
     requires drawable { Drawable line.now at names.now arities.now scope variables.old 0 out.old work.old }
     requires binding_value { scope.binding ≡ Any }
     ensures { Draws arities.now (drawn_closed (names_of names.now arities.now scope) (events_of (drop at line.now))) result out.new }

@@ -24,7 +24,6 @@ use Rattle.elimination.specs.Tables.{leaf_table, entries, aggregate_entries}
 use Rattle.elimination.specs.Elimination.{label_variables, untested, row_join, row_union, row_drops, row_table, tables, row_entries, entries_to, most_entries}
 use Rattle.elimination.proofs.RowLaws.{table_at}
 use Rattle.elimination.proofs.CountLaws.{entries-step}
-use Rattle.eliminate.specs.declared.Worked.TheVariants.{Table, Full}
 use Rattle.eliminate.specs.Masks.{names_of}
 use Rattle.eliminate.specs.MaskLaws.{of-ascending, of_and}
 use Rattle.eliminate.specs.Calls.{Labelled, Asked, Filling, set_at, start_at}
@@ -35,6 +34,8 @@ use Rattle.eliminate.proofs.FillLaws.{fits_moved}
 use Rattle.eliminate.proofs.CountLaws.{mem-rest, part_length, part-size}
 use Rattle.eliminate.proofs.RowLaws.{union-names}
 use Rattle.eliminate.proofs.KeptLaws.{drops-are, branch-holds}
+use Rattle.std.proofs.lemmas.Option.{none-some, same_Some}
+use Rattle.std.specs.Prelude.{None, Some}
 
 -- what a branch row counts
 counts-branch : (s : State) (os ar ws : List ℕ) (ts : List T.Table) (i : ℕ) → label_at ws i ≢ leaf_mark
@@ -151,19 +152,16 @@ module _ {ar ws above heads space env : List ℕ} {n i next used : ℕ} (b : Bra
             go (exactly q) = let z = entries-step s os ar ws i in let c = t.count in omega arith
             go (too_many p q) = absurd (omega arith)
 
-      pub branch-full : most_entries - used < e → Branched ar facts ws above heads space env n i next used Full space env₁
+      pub branch-full : most_entries - used < e → Branched ar facts ws above heads space env n i next used None space env₁
       branch-full h = record {
         before = λ j q. refl;
         range = r.moved.range b.ready.range;
         fits = λ s os g. fits_moved {set = own} g.size_is g.fits r.moved;
-        table = λ k c d q. absurd (no q);
-        holds = λ k c d q s os t hs p o. absurd (no q);
-        counts = λ k c d q s os t. absurd (no q);
+        table = λ k c d q. absurd (none-some _ q);
+        holds = λ k c d q s os t hs p o. absurd (none-some _ q);
+        counts = λ k c d q s os t. absurd (none-some _ q);
         full = λ q s os t. over s os t h;
       }
-        where
-          no : {k c d : ℕ} → Full ≡ Table k c d → ⊥
-          no q = let z : ◌≡◌ {A = ℕ} 0 1 = cc in omega arith
 
       module _ (h : e ≤ most_entries - used) where
         all-few : n ^ length (names_of all) ≤ e
@@ -202,25 +200,22 @@ module _ {ar ws above heads space env : List ℕ} {n i next used : ℕ} (b : Bra
 
           pub branch-done : {space' env₂ : List ℕ}
               → Filled ar facts heads space env₁ n (get_or ws (i * 3) 0) (get_or ws (i * 3 + 1) 0) (get_or ws (i * 3 + 2) 0) kept next drops space' env₂
-              → Branched ar facts ws above heads space env n i next used (Table kept count e) space' env₂
+              → Branched ar facts ws above heads space env n i next used (Some (kept, count, e)) space' env₂
           unfolding label_at high_at low_at
           branch-done {space'} {env₂} f = record {
             before = f.before;
             range = f.range;
             fits = λ s os g. f.fits s os (said-on s os g);
             table = λ k c d q.
-                let p : kept ≡ k = cc in
-                let o : count ≡ c = cc in
-                let z : e ≡ d = cc in
-                (sym o ∙ count-exact ∙ ap (λ v. n ^ length (names_of v)) p, rw (← o, ← z) room, rw (← z) (let u = b.ready.used-few in omega arith));
-            holds = λ k c d q s os t hs p o. let z : kept ≡ k = cc in held s os t hs (p ∙ sym z) o;
-            counts = λ k c d q s os t. let z : e ≡ d = cc in ap (λ v. used + v) (sym z) ∙ under s os t h;
-            full = λ q s os t. absurd (no q);
+                let p = same_Some _ _ q in
+                let o : count ≡ c = ap (λ v. v.1) p in
+                let z : e ≡ d = ap (λ v. v.2) p in
+                (sym o ∙ count-exact ∙ ap (λ v. n ^ length (names_of v.0)) p, rw (← o, ← z) room, rw (← z) (let u = b.ready.used-few in omega arith));
+            holds = λ k c d q s os t hs p o. held s os t hs (p ∙ sym (ap (λ v. v.0) (same_Some _ _ q))) o;
+            counts = λ k c d q s os t. ap (λ v. used + v.2) (sym (same_Some _ _ q)) ∙ under s os t h;
+            full = λ q s os t. absurd (none-some _ (sym q));
           }
             where
-              no : Table kept count e ≡ Full → ⊥
-              no q = let z : ◌≡◌ {A = ℕ} 0 1 = cc in omega arith
-
               said-on : (s : State) (os : List ℕ) → Said s os ar facts env n → Said s os ar facts env₁ n
               said-on s os g = record { good = g.good; size_is = g.size_is; facts-are = g.facts-are; fits = fits_moved {set = own} g.size_is g.fits r.moved }
 

@@ -183,7 +183,8 @@ module _ {ar ws sets : List ℕ} {i : ℕ} (h : Handing ar ws sets i) where
 
     pub hand-done : (r : ℕ) → names_of r ≡ label_variables ar (get_or ws (i * 3) 0)
         → Above ar ws (set (set sets (get_or ws (i * 3 + 1) 0) (bit_or (get_or sets (get_or ws (i * 3 + 1) 0) 0) (bit_or (get_or sets i 0) r))) (get_or ws (i * 3 + 2) 0)
-        (bit_or (get_or (set sets (get_or ws (i * 3 + 1) 0) (bit_or (get_or sets (get_or ws (i * 3 + 1) 0) 0) (bit_or (get_or sets i 0) r))) (get_or ws (i * 3 + 2) 0) 0) (bit_or (get_or sets i 0) r))) i
+        (bit_or (get_or (set sets (get_or ws (i * 3 + 1) 0) (bit_or (get_or sets (get_or ws (i * 3 + 1) 0) 0) (bit_or (get_or sets i 0) r))) (get_or ws (i * 3 + 2) 0) 0)
+        (bit_or (get_or sets i 0) r))) i
     unfolding label_at high_at low_at
     hand-done r is = all_above r is
 

@@ -18,16 +18,14 @@ use Rattle.elimination.specs.Elimination.{row_table, tables, row_entries, entrie
 use Rattle.elimination.proofs.TableLaws.{leaf-full, leaf-sees}
 use Rattle.elimination.proofs.RowLaws.{row-leaf}
 use Rattle.elimination.proofs.CountLaws.{entries-step, entries-passed, leaf-entries}
-use Rattle.eliminate.specs.declared.Worked.{Worked}
-use Rattle.eliminate.specs.declared.Worked.TheVariants.{Table, Full}
-use Rattle.eliminate.specs.declared.Reached.{Reached}
-use Rattle.eliminate.specs.declared.Reached.TheVariants.{At, Over}
 use Rattle.eliminate.specs.Masks.{names_of, env_of, place_of}
 use Rattle.eliminate.specs.MaskLaws.{of_zero}
 use Rattle.eliminate.specs.Calls.{set_at, start_at, Stored}
 use Rattle.eliminate.specs.Stores.{Holds}
 use Rattle.eliminate.specs.Rows.{Ready, Tabled, Branching, Branched, Working, RowWorked, Finished}
 use Rattle.eliminate.proofs.FillLaws.{holds-before}
+use Rattle.std.proofs.lemmas.Option.{none-some, some_pair_parts}
+use Rattle.std.specs.Prelude.{None, Option, Some}
 
 -- ===== Heads =====
 abbrev headed : List ℕ → ℕ → ℕ → ℕ → List ℕ
@@ -154,27 +152,21 @@ module _ {ar ws sets heads space env : List ℕ} {n i next used : ℕ} (w : Work
         let e : row_entries s os ar ws (tables s ar ws i) i ≡ 1 = counts-leaf s os ar ws (tables s ar ws i) i leaf ∙ leaf-entries s os (high_at ws i) in
         omega arith
 
-    pub work-full : used ≡ most_entries → RowWorked ar facts ws sets heads space env n i used Over heads space env
+    pub work-full : used ≡ most_entries → RowWorked ar facts ws sets heads space env n i used None heads space env
     work-full e = record {
-      ready = λ a b q. absurd (no q);
-      tabled = λ a b q s os t. absurd (no q);
+      ready = λ a b q. absurd (none-some _ q);
+      tabled = λ a b q s os t. absurd (none-some _ q);
       over = λ q s os t. let c = leaf-count s os t in let o = ap (entries_to s os ar ws) (add-one i) in omega arith;
     }
-      where
-        no : {a b : ℕ} → Over ≡ At a b → ⊥
-        no q = let z : ◌≡◌ {A = ℕ} 0 1 = cc in omega arith
 
     pub work-leaf : (used ≡ most_entries → ⊥)
-        → RowWorked ar facts ws sets heads space env n i used (At (next + 1) (used + 1)) (headed heads i 0 next) (set space next (get_or ws (i * 3 + 1) 0)) env
+        → RowWorked ar facts ws sets heads space env n i used (Some (next + 1, used + 1)) (headed heads i 0 next) (set space next (get_or ws (i * 3 + 1) 0)) env
     work-leaf d = record {
-      ready = λ a b q. let p : next + 1 ≡ a = cc in let o : used + 1 ≡ b = cc in rw (← p, ← o) all-ready;
-      tabled = λ a b q s os t. let o : used + 1 ≡ b = cc in rw (← o) (all-tabled s os t);
-      over = λ q s os t. absurd (no q);
+      ready = λ a b q. let p = some_pair_parts _ _ _ _ q in rw (← p.0, ← p.1) all-ready;
+      tabled = λ a b q s os t. let p = some_pair_parts _ _ _ _ q in rw (← p.1) (all-tabled s os t);
+      over = λ q s os t. absurd (none-some _ (sym q));
     }
       where
-        no : At (next + 1) (used + 1) ≡ Over → ⊥
-        no q = let z : ◌≡◌ {A = ℕ} 0 1 = cc in omega arith
-
         one_entry : 1 ≡ n ^ length (names_of 0)
         one_entry = sym (ap (λ vs. n ^ length vs) of_zero ∙ pow-zero n)
 
@@ -201,34 +193,28 @@ module _ {ar ws sets heads space env : List ℕ} {n i next used : ℕ} (w : Work
   unfolding label_at
   work-branching d = record { ready = w.ready; row = w.row; branch = d }
 
-  module _ (facts : List ℕ) {r : Worked} {space' env' : List ℕ} (b : Branched ar facts ws sets heads space env n i next used r space' env') where
-    pub work-over : r ≡ Full → RowWorked ar facts ws sets heads space env n i used Over heads space' env'
+  module _ (facts : List ℕ) {r : Option (ℕ × ℕ × ℕ)} {space' env' : List ℕ} (b : Branched ar facts ws sets heads space env n i next used r space' env') where
+    pub work-over : r ≡ None → RowWorked ar facts ws sets heads space env n i used None heads space' env'
     work-over e = record {
-      ready = λ x y q. absurd (no q);
-      tabled = λ x y q s os t. absurd (no q);
+      ready = λ x y q. absurd (none-some _ q);
+      tabled = λ x y q s os t. absurd (none-some _ q);
       over = λ q s os t. let c = b.full e s os t in let o = ap (entries_to s os ar ws) (add-one i) in omega arith;
     }
-      where
-        no : {x y : ℕ} → Over ≡ At x y → ⊥
-        no q = let z : ◌≡◌ {A = ℕ} 0 1 = cc in omega arith
 
-    pub work-sums : {k c e : ℕ} → r ≡ Table k c e → (next + c ≤ most_entries) × (used + e ≤ most_entries)
+    pub work-sums : {k c e : ℕ} → r ≡ Some (k, c, e) → (next + c ≤ most_entries) × (used + e ≤ most_entries)
     work-sums {k} {c} {e} q = let t = b.table k c e q in (omega (arith, t.1, t.2), t.2)
 
-    pub work-table : {k c e : ℕ} → r ≡ Table k c e → length space' ≡ length space → length env' ≡ length env
-        → RowWorked ar facts ws sets heads space env n i used (At (next + c) (used + e)) (headed heads i k next) space' env'
+    pub work-table : {k c e : ℕ} → r ≡ Some (k, c, e) → length space' ≡ length space → length env' ≡ length env
+        → RowWorked ar facts ws sets heads space env n i used (Some (next + c, used + e)) (headed heads i k next) space' env'
     work-table {k} {c} {e} q sk ek = record {
-      ready = λ x y z. let p : next + c ≡ x = cc in let o : used + e ≡ y = cc in rw (← p, ← o) (work-ready k c (used + e) space' env' t.0 t.1 t.2 sk ek b.range);
-      tabled = λ x y z s os d. let o : used + e ≡ y = cc in rw (← o) (work-tabled k c (used + e) space' env' t.0 t.1 t.2 sk ek b.range s os facts d b.before
+      ready = λ x y z. let p = some_pair_parts _ _ _ _ z in rw (← p.0, ← p.1) (work-ready k c (used + e) space' env' t.0 t.1 t.2 sk ek b.range);
+      tabled = λ x y z s os d. let p = some_pair_parts _ _ _ _ z in rw (← p.1) (work-tabled k c (used + e) space' env' t.0 t.1 t.2 sk ek b.range s os facts d b.before
           (b.holds k c e q s os d (headed heads i k next) (set_here heads i k next work-head) (start-here heads i k next work-head)) (b.fits s os d.said) (b.counts k c e q s os d));
-      over = λ z s os d. absurd (no z);
+      over = λ z s os d. absurd (none-some _ (sym z));
     }
       where
         t : (c ≡ n ^ length (names_of k)) × (next + c ≤ used + e) × (used + e ≤ most_entries)
         t = b.table k c e q
-
-        no : At (next + c) (used + e) ≡ Over → ⊥
-        no z = let y : ◌≡◌ {A = ℕ} 0 1 = cc in omega arith
 
 -- ===== All rows =====
 pub record Going (ar facts ws sets heads₀ space₀ env₀ : List ℕ) (n : ℕ) (heads space env : List ℕ) (i next used : ℕ) : Type 0 where
@@ -254,18 +240,15 @@ module _ {ar facts ws sets heads₀ space₀ env₀ : List ℕ} {n : ℕ} {heads
   pub go-working : i < row_count ws → Working ar ws sets heads space env n i next used
   go-working h = record { ready = g.ready; row = h }
 
-  pub go-over : {r : Reached} {heads' space' env' : List ℕ} → i < row_count ws → RowWorked ar facts ws sets heads space env n i used r heads' space' env' → r ≡ Over
-      → Finished ar facts ws sets heads₀ space₀ env₀ n Over heads' space' env'
+  pub go-over : {r : Option (ℕ × ℕ)} {heads' space' env' : List ℕ} → i < row_count ws → RowWorked ar facts ws sets heads space env n i used r heads' space' env' → r ≡ None
+      → Finished ar facts ws sets heads₀ space₀ env₀ n None heads' space' env'
   go-over {r} h w e = record {
-    ready = λ a b q. absurd (no q);
-    tabled = λ a b q s os t. absurd (no q);
+    ready = λ a b q. absurd (none-some _ q);
+    tabled = λ a b q s os t. absurd (none-some _ q);
     over = λ q s os t. let o = w.over e s os (g.tabled s os t) in let p = entries-passed s os ar ws (i + 1) (omega arith) in omega arith;
   }
-    where
-      no : {a b : ℕ} → Over ≡ At a b → ⊥
-      no q = let z : ◌≡◌ {A = ℕ} 0 1 = cc in omega arith
 
-  pub go_on : {r : Reached} {heads' space' env' : List ℕ} {a b : ℕ} → i < row_count ws → RowWorked ar facts ws sets heads space env n i used r heads' space' env' → r ≡ At a b
+  pub go_on : {r : Option (ℕ × ℕ)} {heads' space' env' : List ℕ} {a b : ℕ} → i < row_count ws → RowWorked ar facts ws sets heads space env n i used r heads' space' env' → r ≡ Some (a, b)
       → length heads' ≡ length heads → length space' ≡ length space → length env' ≡ length env
       → Going ar facts ws sets heads₀ space₀ env₀ n heads' space' env' (i + 1) a b
   go_on {r} {heads'} {space'} {env'} {a} {b} h w e x y z = record {
@@ -277,14 +260,9 @@ module _ {ar facts ws sets heads₀ space₀ env₀ : List ℕ} {n : ℕ} {heads
     env-kept = z ∙ g.env-kept;
   }
 
-  pub go-end : row_count ws ≤ i → Finished ar facts ws sets heads₀ space₀ env₀ n (At next used) heads space env
+  pub go-end : row_count ws ≤ i → Finished ar facts ws sets heads₀ space₀ env₀ n (Some (next, used)) heads space env
   go-end h = record {
-    ready = λ a b q. let p : next ≡ a = cc in let o : used ≡ b = cc in let e : i ≡ row_count ws = omega (arith, g.end) in
-        subst (λ j. Ready ar ws sets heads space env n j a b) e (rw (← p, ← o) g.ready);
-    tabled = λ a b q s os t. let o : used ≡ b = cc in let e : i ≡ row_count ws = omega (arith, g.end) in
-        subst (λ j. Tabled s os ar facts ws heads space env n j b) e (rw (← o) (g.tabled s os t));
-    over = λ q s os t. absurd (no q);
+    ready = λ a b q. let p = some_pair_parts _ _ _ _ q in let e : i ≡ row_count ws = omega (arith, g.end) in rw (← e, ← p.0, ← p.1) g.ready;
+    tabled = λ a b q s os t. let p = some_pair_parts _ _ _ _ q in let e : i ≡ row_count ws = omega (arith, g.end) in rw (← e, ← p.1) (g.tabled s os t);
+    over = λ q s os t. absurd (none-some _ (sym q));
   }
-    where
-      no : At next used ≡ Over → ⊥
-      no q = let z : ◌≡◌ {A = ℕ} 0 1 = cc in omega arith

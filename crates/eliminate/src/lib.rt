@@ -1,7 +1,7 @@
 // Variable elimination over lent words: a table for each row of a listing, as numbers in one array.
 #![tactic(auto)]
 
-ghost use Rattle.std.specs.Prelude.{◌≡◌, cond, ◌+◌, ◌*◌, ◌^◌, ◌<◌, ◌≤◌, min, max, length};
+ghost use Rattle.std.specs.Prelude.{◌≡◌, ◌+◌, ◌*◌, ◌^◌, ◌<◌, ◌≤◌, min, length};
 ghost use Rattle.label.specs.Limits.{first_minimum};
 ghost use Rattle.label.specs.Labels.{predicate_of};
 ghost use Rattle.diagram.specs.Words.{row_count};
@@ -20,20 +20,6 @@ use state::FACT_WORDS;
 // Entries of all tables of one evaluation at most.
 pub const ENTRIES: u64 = 8192;
 
-// What working out a branch row gives: its table's names and how many entries it has, and the entries that the row counts; or too many.
-#[derive(Clone, Copy)]
-pub enum Worked {
-    Table(u64, u64, u64),
-    Full,
-}
-
-// How far the rows are worked out: where the next table begins and how many entries are counted; or that they are too many.
-#[derive(Clone, Copy)]
-pub enum Reached {
-    At(usize, u64),
-    Over,
-}
-
 // Gives the variables of the set the objects of the choice with the place c.
 fn decode(env: &mut [u64], n: u64, set: u64, c: u64)
     requires { Decodable env.old n }
@@ -41,20 +27,15 @@ fn decode(env: &mut [u64], n: u64, set: u64, c: u64)
 {
     let mut rest = set;
     let mut code = c;
-    let mut v = Term::FIRST_VARIABLE as usize;
-    while v < (Term::FIRST_MINIMUM as usize) {
+    for v in Term::FIRST_VARIABLE as usize..Term::FIRST_MINIMUM as usize {
         if rest == 0 {
             return;
         }
         if rest % 2 == 1 {
             env[v] = code % n;
             code = code / n;
-            rest = rest / 2;
-            v += 1;
-        } else {
-            rest = rest / 2;
-            v += 1;
         }
+        rest = rest / 2;
     }
 }
 
@@ -66,20 +47,15 @@ fn place(env: &[u64], n: u64, set: u64) -> usize
     let mut rest = set;
     let mut weight = 1;
     let mut at = 0;
-    let mut v = Term::FIRST_VARIABLE as usize;
-    while v < (Term::FIRST_MINIMUM as usize) {
+    for v in Term::FIRST_VARIABLE as usize..Term::FIRST_MINIMUM as usize {
         if rest == 0 {
             return at as usize;
         }
         if rest % 2 == 1 {
             at = at + weight * env[v];
             weight = weight * n;
-            rest = rest / 2;
-            v += 1;
-        } else {
-            rest = rest / 2;
-            v += 1;
         }
+        rest = rest / 2;
     }
     at as usize
 }
@@ -96,13 +72,11 @@ fn says(arities: &[u64], facts: &[u64], env: &[u64], l: u64, i: usize) -> bool
         return false;
     }
     let arity = arities[p as usize];
-    let mut k = 0;
-    while k < arity {
+    for k in 0..arity {
         let t = label.place(k) as usize;
         if facts[i * FACT_WORDS + 1 + (k as usize)] != env[t] {
             return false;
         }
-        k += 1;
     }
     true
 }
@@ -113,12 +87,10 @@ fn said(arities: &[u64], facts: &[u64], env: &[u64], l: u64) -> bool
     ensures { result ≡ said_by arities.now facts.now (predicate_of l) (objects_of arities.now env.now l) }
 {
     let rows = facts.len() / FACT_WORDS;
-    let mut i = 0;
-    while i < rows {
+    for i in 0..rows {
         if says(arities, facts, env, l, i) {
             return true;
         }
-        i += 1;
     }
     false
 }
@@ -156,10 +128,8 @@ fn variables(arities: &[u64], l: u64) -> u64
     let label = Label { packed: l };
     let arity = arities[label.predicate() as usize];
     let mut set = 0;
-    let mut k = 0;
-    while k < arity {
+    for k in 0..arity {
         set = set | one(label.place(k));
-        k += 1;
     }
     set
 }
@@ -171,8 +141,7 @@ fn size(n: u64, set: u64) -> u64
 {
     let mut rest = set;
     let mut size = 1;
-    let mut v = Term::FIRST_VARIABLE;
-    while v < Term::FIRST_MINIMUM {
+    for v in Term::FIRST_VARIABLE..Term::FIRST_MINIMUM {
         if rest == 0 {
             return size;
         }
@@ -184,24 +153,10 @@ fn size(n: u64, set: u64) -> u64
             if size > ENTRIES {
                 return ENTRIES + 1;
             }
-            rest = rest / 2;
-            v += 1;
-        } else {
-            rest = rest / 2;
-            v += 1;
         }
+        rest = rest / 2;
     }
     size
-}
-
-// 1 if true.
-fn counted(b: bool) -> u64
-    ensures { result ≡ cond b 1 0 }
-{
-    if b {
-        return 1;
-    }
-    0
 }
 
 // For how many of the m choices for the variables of the set the label holds.
@@ -211,11 +166,9 @@ fn cases(arities: &[u64], facts: &[u64], env: &mut [u64], n: u64, l: u64, set: u
     ensures { Counted arities.now facts.now env.old n l set m result env.new }
 {
     let mut count = 0;
-    let mut c = 0;
-    while c < m {
+    for c in 0..m {
         decode(env, n, set, c);
-        count += counted(truth(arities, facts, env, l));
-        c += 1;
+        count += u64::from(truth(arities, facts, env, l));
     }
     count
 }
@@ -251,16 +204,6 @@ fn look(
     entry(heads, space, env, n, low)
 }
 
-// The higher of two numbers.
-fn higher(x: u64, y: u64) -> u64
-    ensures { result ≡ max x y }
-{
-    if x < y {
-        return y;
-    }
-    x
-}
-
 // The highest entry of the union over the m choices for the variables of the set.
 fn best(
     arities: &[u64],
@@ -279,14 +222,9 @@ fn best(
     ensures { Best arities.now facts.now heads.now space.now n l high low set m env.old result env.new }
 {
     let mut best = 0;
-    let mut c = 0;
-    while c < m {
+    for c in 0..m {
         decode(env, n, set, c);
-        best = higher(
-            best,
-            look(arities, facts, heads, space, env, n, l, high, low),
-        );
-        c += 1;
+        best = best.max(look(arities, facts, heads, space, env, n, l, high, low));
     }
     best
 }
@@ -311,12 +249,10 @@ fn fill(
     requires { Filling arities.now heads.now space.old env.old n l high low kept start count drops m }
     ensures { Filled arities.now facts.now heads.now space.old env.old n l high low kept start drops space.new env.new }
 {
-    let mut e = 0;
-    while e < count {
+    for e in 0..count {
         decode(env, n, kept, e as u64);
         let b = best(arities, facts, heads, space, env, n, l, high, low, drops, m);
         space[start + e] = b;
-        e += 1;
     }
 }
 
@@ -341,9 +277,7 @@ pub fn find_above(arities: &[u64], words: &[u64], above: &mut [u64])
     requires { Above arities.now words.now above.old (row_count words.now) }
     ensures { Above arities.now words.now above.new 0 }
 {
-    let mut i = words.len() / 3;
-    while i > 0 {
-        i -= 1;
+    for i in (0..words.len() / 3).rev() {
         hand_on(arities, words, above, i);
     }
 }
@@ -356,20 +290,15 @@ fn shrink(n: u64, whole: u64, set: u64) -> u64
     let mut rest = set;
     let mut size = whole;
     let mut sum = 0;
-    let mut v = Term::FIRST_VARIABLE;
-    while v < Term::FIRST_MINIMUM {
+    for v in Term::FIRST_VARIABLE..Term::FIRST_MINIMUM {
         if rest == 0 {
             return sum;
         }
         if rest % 2 == 1 {
             size = size / n;
             sum += size;
-            rest = rest / 2;
-            v += 1;
-        } else {
-            rest = rest / 2;
-            v += 1;
         }
+        rest = rest / 2;
     }
     sum
 }
@@ -401,7 +330,8 @@ fn row_entries(
     yes + no + whole + shrink(n, whole, drops)
 }
 
-// Works out the branch row i: its table stands from `next` on, unless its entries and the `used` ones pass the limit.
+// Works out the branch row i: its table stands from `next` on, unless its entries and the `used` ones pass the limit. Answers its table's names, how
+// many entries it has, and the entries that the row counts.
 fn branch_table(
     arities: &[u64],
     facts: &[u64],
@@ -414,7 +344,7 @@ fn branch_table(
     i: usize,
     next: usize,
     used: u64,
-) -> Worked
+) -> Option<(u64, u64, u64)>
     requires { Branching arities.now words.now above.now heads.now space.old env.old n i next used }
     ensures { Branched arities.now facts.now words.now above.now heads.now space.old env.old n i next used result space.new env.new }
 {
@@ -437,7 +367,7 @@ fn branch_table(
         drops,
     );
     if e > ENTRIES - used {
-        return Worked::Full;
+        return None;
     }
     let count = size(n, kept);
     fill(
@@ -456,10 +386,10 @@ fn branch_table(
         drops,
         size(n, drops),
     );
-    Worked::Table(kept, count, e)
+    Some((kept, count, e))
 }
 
-// Works out row i.
+// Works out row i. Answers where the next table begins and the entries that are counted, or None where these are too many.
 fn work_row(
     arities: &[u64],
     facts: &[u64],
@@ -472,27 +402,25 @@ fn work_row(
     i: usize,
     next: usize,
     used: u64,
-) -> Reached
+) -> Option<(usize, u64)>
     requires { Working arities.now words.now above.now heads.old space.old env.old n i next used }
     ensures { RowWorked arities.now facts.now words.now above.now heads.old space.old env.old n i used result heads.new space.new env.new }
 {
     if words[i * 3] == Label::LEAF {
         if used == ENTRIES {
-            return Reached::Over;
+            return None;
         }
         space[next] = words[i * 3 + 1];
         heads[i * 2] = 0;
         heads[i * 2 + 1] = next as u64;
-        return Reached::At(next + 1, used + 1);
+        return Some((next + 1, used + 1));
     }
-    let Worked::Table(kept, count, e) = branch_table(
+    let (kept, count, e) = branch_table(
         arities, facts, words, above, heads, space, env, n, i, next, used,
-    ) else {
-        return Reached::Over;
-    };
+    )?;
     heads[i * 2] = kept;
     heads[i * 2 + 1] = next as u64;
-    Reached::At(next + count as usize, used + e)
+    Some((next + count as usize, used + e))
 }
 
 // Works out all rows, in listing order.
@@ -505,23 +433,19 @@ pub fn work(
     space: &mut [u64],
     env: &mut [u64],
     n: u64,
-) -> Reached
+) -> Option<(usize, u64)>
     requires { Ready arities.now words.now above.now heads.old space.old env.old n 0 0 0 }
     ensures { Finished arities.now facts.now words.now above.now heads.old space.old env.old n result heads.new space.new env.new }
 {
     let rows = words.len() / 3;
-    let mut i = 0;
     let mut next = 0;
     let mut used = 0;
-    while i < rows {
-        let Reached::At(a, b) = work_row(
+    for i in 0..rows {
+        let (a, b) = work_row(
             arities, facts, words, above, heads, space, env, n, i, next, used,
-        ) else {
-            return Reached::Over;
-        };
+        )?;
         next = a;
         used = b;
-        i += 1;
     }
-    Reached::At(next, used)
+    Some((next, used))
 }

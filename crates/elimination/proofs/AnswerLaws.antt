@@ -14,8 +14,6 @@ use Rattle.diagram.specs.Listing.{diagram_of}
 use Rattle.diagram.specs.Variables.{is_plain}
 use Rattle.diagram.specs.WordLaws.{below-every}
 use Rattle.diagram.specs.Listings.{is-listing-good}
-use Rattle.state.specs.declared.Valued.{Valued}
-use Rattle.state.specs.declared.Valued.TheVariants.{Value, Refused}
 use Rattle.state.specs.Max.{none}
 use Rattle.state.specs.State.{State, Good, low, meaning}
 use Rattle.state.proofs.ValueLaws.{low-lt, low-ge, by-low}
@@ -29,6 +27,8 @@ use Rattle.elimination.specs.Tables.{entries}
 use Rattle.elimination.specs.Elimination.{root_table, most_entries, all_entries}
 use Rattle.elimination.specs.Answer.{answer_by, first_answer, is_too_large, value_answer}
 use Rattle.elimination.proofs.RootLaws.{root_names, root-entries, root-value}
+use Rattle.refusal.specs.declared.Refusal.{Refusal}
+use Rattle.std.specs.Prelude.{Err, Ok, Result}
 
 -- a lent state has an object, and its constants are objects
 pub lent-good : (ar : List ℕ) (n : ℕ) (constants facts : List ℕ) → is_state ar n constants facts ≡ true → Good (state_of ar n constants facts)
@@ -66,10 +66,10 @@ module _ (ar ws : List ℕ) (n : ℕ) (constants facts : List ℕ) (listed : is_
 -- ===== The answer =====
 module _ (ar ws : List ℕ) (n : ℕ) (constants facts : List ℕ) where
   -- the four tests, and what both answers are by them
-  old-by : (a b c d : Bool) → Valued → Valued
-  old-by a b c d v = cond (not a) (Refused Listing) (cond (not b) (Refused Range) (cond (not c) (Refused Unbound) (cond d (Refused Valuations) v)))
+  old-by : (a b c d : Bool) → Result ℕ Refusal → Result ℕ Refusal
+  old-by a b c d v = cond (not a) (Err Listing) (cond (not b) (Err Range) (cond (not c) (Err Unbound) (cond d (Err Valuations) v)))
 
-  same_by : (a b c d e : Bool) (v : Valued) → old-by a b c d v ≢ Refused Valuations → old-by a b c (d && e) v ≡ old-by a b c d v
+  same_by : (a b c d e : Bool) (v : Result ℕ Refusal) → old-by a b c d v ≢ Err Valuations → old-by a b c (d && e) v ≡ old-by a b c d v
   unfolding old-by
   same_by false b c d e v h = refl
   same_by true false c d e v h = refl
@@ -78,15 +78,15 @@ module _ (ar ws : List ℕ) (n : ℕ) (constants facts : List ℕ) where
   same_by true true true true e v h = absurd (h refl)
 
   -- wherever the answer was no 15, it is as before
-  pub valued_same : first_answer ar ws n constants facts ≢ Refused Valuations → value_answer ar ws n constants facts ≡ first_answer ar ws n constants facts
+  pub valued_same : first_answer ar ws n constants facts ≢ Err Valuations → value_answer ar ws n constants facts ≡ first_answer ar ws n constants facts
   unfolding value_answer is_too_large first_answer answer_by old-by state_of
   valued_same h = same_by (is_listing ar ws) (is_state ar n constants facts) (eqb (length (parameters ar (diagram_of ws))) 0)
       (ltb most_valuations (valuations ar n (diagram_of ws)))
       (not (is_plain ar (diagram_of ws)) || ltb most_entries (all_entries (state_of ar n constants facts) [] ar ws))
-      (Value (number (state_of ar n constants facts) [] (meaning ar (diagram_of ws)))) h
+      (Ok (number (state_of ar n constants facts) [] (meaning ar (diagram_of ws)))) h
 
   -- a 15 passed the checks before it
-  was-by : (a b c d : Bool) (x : ℕ) → old-by a b c d (Value x) ≡ Refused Valuations → (a ≡ true) × (b ≡ true) × (c ≡ true) × (d ≡ true)
+  was-by : (a b c d : Bool) (x : ℕ) → old-by a b c d (Ok x) ≡ Err Valuations → (a ≡ true) × (b ≡ true) × (c ≡ true) × (d ≡ true)
   unfolding old-by
   was-by false b c d x h = let z : ◌≡◌ {A = ℕ} 0 1 = cc in absurd (omega arith)
   was-by true false c d x h = let z : ◌≡◌ {A = ℕ} 0 1 = cc in absurd (omega arith)
@@ -95,7 +95,7 @@ module _ (ar ws : List ℕ) (n : ℕ) (constants facts : List ℕ) where
   was-by true true true true x h = (refl, refl, refl, refl)
 
   -- where it was 15, it is the root table's value if there is no minimum variable and the entries are few enough, and 15 otherwise
-  module _ (was : first_answer ar ws n constants facts ≡ Refused Valuations) where
+  module _ (was : first_answer ar ws n constants facts ≡ Err Valuations) where
     passed : (is_listing ar ws ≡ true) × (is_state ar n constants facts ≡ true) × (eqb (length (parameters ar (diagram_of ws))) 0 ≡ true)
         × (ltb most_valuations (valuations ar n (diagram_of ws)) ≡ true)
     unfolding first_answer answer_by old-by
@@ -103,18 +103,18 @@ module _ (ar ws : List ℕ) (n : ℕ) (constants facts : List ℕ) where
         (ltb most_valuations (valuations ar n (diagram_of ws))) (number (state_of ar n constants facts) [] (meaning ar (diagram_of ws))) was
 
     pub valued-tables : is_plain ar (diagram_of ws) ≡ true → all_entries (state_of ar n constants facts) [] ar ws ≤ most_entries
-        → value_answer ar ws n constants facts ≡ Value ((root_table (state_of ar n constants facts) ar ws).value (start (state_of ar n constants facts) []))
+        → value_answer ar ws n constants facts ≡ Ok ((root_table (state_of ar n constants facts) ar ws).value (start (state_of ar n constants facts) []))
     unfolding value_answer is_too_large answer_by state_of
     valued-tables plain h =
         rw (passed.0, passed.1, passed.2, passed.3, plain, le-ltb most_entries (all_entries (state_of ar n constants facts) [] ar ws) h)
-        (ap Value (sym (lent-value ar ws n constants facts passed.0 passed.1 plain)))
+        (ap Ok (sym (lent-value ar ws n constants facts passed.0 passed.1 plain)))
 
-    pub valued-refused : most_entries < all_entries (state_of ar n constants facts) [] ar ws → value_answer ar ws n constants facts ≡ Refused Valuations
+    pub valued-refused : most_entries < all_entries (state_of ar n constants facts) [] ar ws → value_answer ar ws n constants facts ≡ Err Valuations
     unfolding value_answer is_too_large answer_by state_of
     valued-refused h =
         rw (passed.0, passed.1, passed.2, passed.3, lt-ltb most_entries (all_entries (state_of ar n constants facts) [] ar ws) h, or-true (not (is_plain ar (diagram_of ws))))
 
-    pub valued-minimum : is_plain ar (diagram_of ws) ≡ false → value_answer ar ws n constants facts ≡ Refused Valuations
+    pub valued-minimum : is_plain ar (diagram_of ws) ≡ false → value_answer ar ws n constants facts ≡ Err Valuations
     unfolding value_answer is_too_large answer_by state_of
     valued-minimum e = rw (passed.0, passed.1, passed.2, passed.3, e)
 

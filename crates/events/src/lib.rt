@@ -5,7 +5,7 @@ ghost use Rattle.std.specs.Prelude.{◌≡◌, ◌+◌, ◌≤◌, ◌<◌, leng
 ghost use Rattle.events.specs.Events.{first_word};
 ghost use Rattle.events.specs.Contents.{key_in, number_in};
 ghost use Rattle.events.specs.Inner.{next_at};
-ghost use Rattle.events.specs.Front.{is_end, space, behind, space_bit, spaces, word_at, is_if, atom_front, number_front, front_of};
+ghost use Rattle.events.specs.Front.{is_end, space, behind, spaces, word_at, is_if, atom_front, number_front, front_of};
 
 use text::Kind;
 use words::Key;
@@ -51,152 +51,121 @@ pub fn first_word(kind: Kind) -> usize
     ensures { result ≡ first_word kind }
 {
     match kind {
-        Kind::Constant => 10,
-        Kind::Predicate => 11,
-        Kind::Total => 7,
-        Kind::Discount => 10,
-        Kind::Reward => 8,
-        Kind::Action => 8,
-        Kind::Variant => 9,
-        Kind::Becomes => 9,
-        Kind::Start => 7,
-        Kind::Objects => 9,
-        Kind::Is => 4,
-        Kind::True => 6,
-        Kind::Value => 7,
-        Kind::Backup => 8,
-        Kind::Cut => 5,
-        Kind::Show => 6,
-        Kind::Reduce => 8,
-        Kind::Text => 6,
-        Kind::Best => 6,
-        Kind::Count => 7,
-        Kind::Did => 5,
         Kind::Bad => 2,
+        Kind::Is => 4,
+        Kind::Cut | Kind::Did => 5,
+        Kind::True | Kind::Show | Kind::Text | Kind::Best => 6,
+        Kind::Total | Kind::Start | Kind::Value | Kind::Count => 7,
+        Kind::Reward | Kind::Action | Kind::Backup | Kind::Reduce => 8,
+        Kind::Variant | Kind::Becomes | Kind::Objects => 9,
+        Kind::Constant | Kind::Discount => 10,
+        Kind::Predicate => 11,
     }
 }
 
 // The place i, or the one behind it where a space stands there.
+#[tactic(auto, unfolding(crate::specs::Front::space))]
 fn skip(s: &[u8], i: usize) -> usize
     ensures { result ≡ space s.now i }
 {
     if words::byte_at(s, i) == b' ' {
-        let j = i + 1;
-        j
+        i + 1
     } else {
         i
     }
 }
 
 // The place behind a name that ends at i: an atom's closing bracket is passed too.
+#[tactic(auto, unfolding(crate::specs::Front::behind))]
 fn pass(s: &[u8], i: usize) -> usize
     ensures { result ≡ behind s.now i }
 {
     if words::byte_at(s, i) == b')' {
-        let j = i + 1;
-        skip(s, j)
+        skip(s, i + 1)
     } else {
         skip(s, i)
     }
-}
-
-fn space_bit(b: u8) -> usize
-    ensures { result ≡ space_bit b }
-{
-    if b == b' ' { 1 } else { 0 }
 }
 
 // How many spaces stand before the first closing bracket: the count of words behind a name.
 pub fn count_words(s: &[u8]) -> usize
     ensures { result ≡ spaces s.now }
 {
-    let mut i = 0;
     let mut n = 0;
-    while i < s.len() {
-        let b = s[i];
-        if b == b')' {
+    for b in s {
+        if *b == b')' {
             return n;
         }
-        n += space_bit(b);
-        i += 1;
+        n += usize::from(*b == b' ');
     }
     n
 }
 
 // The name at i.
+#[tactic(auto, unfolding(crate::specs::Front::word_at, crate::specs::Front::name_key))]
 fn word_at(s: &[u8], i: usize) -> Word
     ensures { result ≡ word_at s.now i }
 {
     let t = words::rest(s, i);
     let n = words::name_run(t);
-    let j = i + n;
-    let place = pass(s, j);
+    let place = pass(s, i + n);
     if 15 < n {
         return Word {
             key: Key { a: 0, b: 0 },
-            place: place,
+            place,
         };
     }
-    let key = words::key_of(&t[..n]);
     Word {
-        key: key,
-        place: place,
+        key: words::key_of(&t[..n]),
+        place,
     }
 }
 
 // Whether an if form stands here: its atom opens a second bracket.
+#[tactic(auto, unfolding(crate::specs::Front::is_if))]
 fn is_if(s: &[u8]) -> bool
     ensures { result ≡ is_if s.now }
 {
-    if words::byte_at(s, 1) != b'i' {
-        return false;
-    }
-    if words::byte_at(s, 2) != b'f' {
-        return false;
-    }
-    if words::byte_at(s, 3) != b' ' {
-        return false;
-    }
-    words::byte_at(s, 4) == b'('
+    words::byte_at(s, 1) == b'i'
+        && words::byte_at(s, 2) == b'f'
+        && words::byte_at(s, 3) == b' '
+        && words::byte_at(s, 4) == b'('
 }
 
 // The atom whose bracket stands at i.
+#[tactic(auto, unfolding(crate::specs::Front::atom_front))]
 fn atom_at(s: &[u8], i: usize) -> Seen
     requires { i ≤ 4 }
     ensures { result ≡ atom_front s.now i }
 {
     let j = i + 1;
     if words::byte_at(s, j) == b'=' {
-        let k = i + 2;
-        let place = skip(s, k);
         return Seen {
             event: Event::Equal,
-            taken: place,
+            taken: skip(s, i + 2),
         };
     }
     let w = word_at(s, j);
-    let n = count_words(words::rest(s, j));
-    let key = w.key;
     Seen {
-        event: Event::Holds(key, n),
+        event: Event::Holds(w.key, count_words(words::rest(s, j))),
         taken: w.place,
     }
 }
 
 // The number that s begins with.
+#[tactic(auto, unfolding(crate::specs::Front::number_front))]
 fn number_at(s: &[u8]) -> Seen
     ensures { result ≡ number_front s.now }
 {
     let n = words::digit_run(s);
-    let v = words::value(&s[..n]);
-    let place = skip(s, n);
     Seen {
-        event: Event::Number(v),
-        taken: place,
+        event: Event::Number(words::value(&s[..n])),
+        taken: skip(s, n),
     }
 }
 
 // The event at the front of s.
+#[tactic(auto, unfolding(crate::specs::Front::front_of, words::specs::Bytes::is_letter, words::specs::Bytes::is_digit))]
 pub fn front(s: &[u8]) -> Seen
     ensures { result ≡ front_of s.now }
 {
@@ -206,58 +175,49 @@ pub fn front(s: &[u8]) -> Seen
             taken: 0,
         };
     }
-    let b = words::byte_at(s, 0);
-    if words::letter(b) {
-        let w = word_at(s, 0);
-        let key = w.key;
-        return Seen {
-            event: Event::Name(key),
-            taken: w.place,
-        };
-    }
-    if words::digit(b) {
-        return number_at(s);
-    }
-    if b == b'?' {
-        let w = word_at(s, 1);
-        let key = w.key;
-        return Seen {
-            event: Event::Variable(key),
-            taken: w.place,
-        };
-    }
-    if b == b'!' {
-        let w = word_at(s, 1);
-        let key = w.key;
-        return Seen {
-            event: Event::Parameter(key),
-            taken: w.place,
-        };
-    }
-    if b == b'%' {
-        let w = word_at(s, 1);
-        let key = w.key;
-        return Seen {
-            event: Event::Minimum(key),
-            taken: w.place,
-        };
-    }
-    if b == b'(' {
-        if is_if(s) {
-            return atom_at(s, 4);
-        }
-        return atom_at(s, 0);
-    }
-    if b == b')' {
-        let place = skip(s, 1);
-        return Seen {
+    match s[0] {
+        b'a'..=b'z' => {
+            let w = word_at(s, 0);
+            Seen {
+                event: Event::Name(w.key),
+                taken: w.place,
+            }
+        },
+        b'0'..=b'9' => number_at(s),
+        b'?' => {
+            let w = word_at(s, 1);
+            Seen {
+                event: Event::Variable(w.key),
+                taken: w.place,
+            }
+        },
+        b'!' => {
+            let w = word_at(s, 1);
+            Seen {
+                event: Event::Parameter(w.key),
+                taken: w.place,
+            }
+        },
+        b'%' => {
+            let w = word_at(s, 1);
+            Seen {
+                event: Event::Minimum(w.key),
+                taken: w.place,
+            }
+        },
+        b'(' => if is_if(s) {
+            atom_at(s, 4)
+        } else {
+            atom_at(s, 0)
+        },
+        b')' => Seen {
             event: Event::Step,
-            taken: place,
-        };
-    }
-    Seen {
-        event: Event::End,
-        taken: 0,
+            taken: skip(s, 1),
+        },
+        _ => Seen {
+            event: Event::End,
+            taken: 0,
+        },
     }
 }
 
@@ -267,11 +227,9 @@ pub fn next_event(s: &[u8], i: usize) -> Next
     ensures { result ≡ next_at s.now i }
 {
     let seen = front(&s[i..]);
-    let event = seen.event;
-    let place = i + seen.taken;
     Next {
-        event: event,
-        place: place,
+        event: seen.event,
+        place: i + seen.taken,
     }
 }
 
@@ -279,17 +237,7 @@ pub fn next_event(s: &[u8], i: usize) -> Next
 pub fn is_end(event: Event) -> bool
     ensures { result ≡ is_end event }
 {
-    match event {
-        Event::Name(_) => false,
-        Event::Variable(_) => false,
-        Event::Parameter(_) => false,
-        Event::Minimum(_) => false,
-        Event::Number(_) => false,
-        Event::Equal => false,
-        Event::Holds(_, _) => false,
-        Event::Step => false,
-        Event::End => true,
-    }
+    matches!(event, Event::End)
 }
 
 // The key of a name, ?name, !name or %name.
@@ -297,15 +245,12 @@ pub fn key_in(event: Event) -> Key
     ensures { result ≡ key_in event }
 {
     match event {
-        Event::Name(key) => key,
-        Event::Variable(key) => key,
-        Event::Parameter(key) => key,
-        Event::Minimum(key) => key,
-        Event::Number(_) => Key { a: 0, b: 0 },
-        Event::Equal => Key { a: 0, b: 0 },
-        Event::Holds(key, _) => key,
-        Event::Step => Key { a: 0, b: 0 },
-        Event::End => Key { a: 0, b: 0 },
+        Event::Name(key)
+        | Event::Variable(key)
+        | Event::Parameter(key)
+        | Event::Minimum(key)
+        | Event::Holds(key, _) => key,
+        _ => Key { a: 0, b: 0 },
     }
 }
 
@@ -314,14 +259,7 @@ pub fn number_in(event: Event) -> u64
     ensures { result ≡ number_in event }
 {
     match event {
-        Event::Name(_) => 0,
-        Event::Variable(_) => 0,
-        Event::Parameter(_) => 0,
-        Event::Minimum(_) => 0,
         Event::Number(v) => v,
-        Event::Equal => 0,
-        Event::Holds(_, _) => 0,
-        Event::Step => 0,
-        Event::End => 0,
+        _ => 0,
     }
 }

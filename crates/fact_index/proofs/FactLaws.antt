@@ -3,26 +3,12 @@ use mathlib.Core.Path.{◌≡◌, refl, sym, ap, subst, ◌∙◌}
 use mathlib.Core.List.{List}
 use Prim.Native.Nat.{ℕ, ◌+◌, ◌-◌, ◌*◌, ◌/◌, ◌≤◌, ◌<◌, min}
 use native.Mathlib.Omega.{arith}
-use lib.ListN.{length, get_or, set, length-set, get_or-eq_default}
+use lib.ListN.{length, get_or, set, length-set}
 use Rattle.label.specs.Limits.{most_places}
 use Rattle.state.specs.Lent.{fact_words, fact_count, predicate_at}
 use Rattle.fact_index.specs.Inner.{place_count, object_at, hash_end, hash_gap, hash_step, hash_of, bucket_for, bucket_at, indexed_count, Indexed, Clean}
 use Rattle.fact_index.specs.Index.{buckets}
 use Rattle.fact_index.specs.IndexLaws.{Hashing, hashing-on, index-add, Clearing, clear-start, clear-on, all-cleared}
-
--- the places of a predicate, test by test
-module _ (ar : List ℕ) (p : ℕ) where
-  pub count_none : length ar ≤ p → 0 ≡ place_count ar p
-  unfolding place_count
-  count_none h = omega (arith, get_or-eq_default ar 0 h)
-
-  pub count-few : get_or ar p 0 < most_places → get_or ar p 0 ≡ place_count ar p
-  unfolding place_count
-  count-few h = omega arith
-
-  pub count-all : most_places ≤ get_or ar p 0 → most_places ≡ place_count ar p
-  unfolding place_count
-  count-all h = omega arith
 
 -- the bucket of a row
 module _ (ar facts : List ℕ) (i : ℕ) {j : ℕ} where

@@ -21,14 +21,10 @@ const HASH_GAP: u64 = 64;
 pub fn place_count(arities: &[u64], p: u64) -> usize
     ensures { (result ≡ place_count arities.now p) × (result ≤ most_places) }
 {
-    let i = p as usize;
-    if i >= arities.len() {
-        return 0;
+    match arities.get(p as usize) {
+        Some(n) => (*n).min(Label::PLACES) as usize,
+        None => 0,
     }
-    if arities[i] < Label::PLACES {
-        return arities[i] as usize;
-    }
-    Label::PLACES as usize
 }
 
 // The number of a fact of p, before its objects.
@@ -62,10 +58,8 @@ pub fn row_bucket(arities: &[u64], facts: &[u64], i: usize) -> usize
     let p = facts[i * FACT_WORDS];
     let k = place_count(arities, p);
     let mut h = hash_start(p);
-    let mut j = 0;
-    while j < k {
+    for j in 0..k {
         h = hash_step(h, facts[i * FACT_WORDS + 1 + j]);
-        j += 1;
     }
     bucket(h)
 }
@@ -76,15 +70,13 @@ pub fn index_facts(arities: &[u64], facts: &[u64], index: &mut [u64])
     ensures { Indexed arities.now facts.now index.new (indexed_count facts.now index.new) }
 {
     let rows = facts.len() / FACT_WORDS;
-    let mut i = 0;
-    while i < rows {
+    for i in 0..rows {
         if BUCKETS + i == index.len() {
             return;
         }
         let h = row_bucket(arities, facts, i);
         index[BUCKETS + i] = index[h];
         index[h] = (i + 1) as u64;
-        i += 1;
     }
 }
 
@@ -94,13 +86,11 @@ pub fn clear_index(arities: &[u64], facts: &[u64], index: &mut [u64])
     ensures { Clean index.new }
 {
     let rows = facts.len() / FACT_WORDS;
-    let mut i = 0;
-    while i < rows {
+    for i in 0..rows {
         if BUCKETS + i == index.len() {
             return;
         }
         let h = row_bucket(arities, facts, i);
         index[h] = 0;
-        i += 1;
     }
 }

@@ -4,11 +4,11 @@ use mathlib.Core.Bool.{Bool, true, false, not}
 use mathlib.Core.List.{List, [], ◌∷◌, ◌++◌}
 use Prim.Native.Nat.{ℕ, zero, suc, ◌+◌, ◌*◌, ◌-◌, ◌<◌, ◌≤◌}
 use native.Mathlib.Omega.{arith}
-use borrow.Author.Tests.{le-leb, lt-leb, eq-eqb, ne_eqb, eqb-true, eqb-false}
+use borrow.Author.Tests.{le-leb, lt-leb, eq-eqb, ne_eqb, eqb-true}
 use lib.ListN.{length, get_or, set, take, drop, replicate, length-set, length-append, length-replicate}
-use lib.Seq.{take-add, drop-drop, take_all, ext_get_or, get_or-take, get_or-set_same, get_or-set_other, length-take-le, paste, paste-zero, paste-suc, length-paste}
+use lib.Seq.{take-add, drop-drop, take_all, ext_get_or, get_or-take, get_or-set_same, get_or-set_other, length-take-le, paste, length-paste}
 use lib.Dec.{eqb}
-use Rattle.basics.specs.Tests.{Flag, is_true, is_false, flag, and_left}
+use Rattle.basics.specs.Tests.{and_left}
 use Rattle.state.specs.Lent.{fact_count, all_below, fact_words, most_facts, fact_row}
 use Rattle.state.proofs.LentLaws.{some-made, some-none}
 use Rattle.fact_index.specs.Inner.{bucket_at, indexed_count, Indexed, Asks}
@@ -16,11 +16,9 @@ use Rattle.fact_index.specs.Index.{buckets}
 use Rattle.fact_index.specs.IndexLaws.{bucket-same, indexed-same, index-add}
 use Rattle.fact_index.specs.SearchLaws.{Chain, chain_head, chain-start, chain-row, chain_link, chain-less, chain-hit, chain-on, chain-none}
 use Rattle.session.specs.Session.{refuse_if}
-use Rattle.diagram.specs.WordLaws.{every-below, below-every}
+use Rattle.diagram.specs.WordLaws.{below-every}
 use Rattle.session.specs.Facts.{same_word, row_is, is_fact, with_fact, begun_again, fact_line, true_line}
 use Rattle.facts.specs.declared.Live.{Live}
-use Rattle.facts.specs.declared.Told.{Told}
-use Rattle.facts.specs.declared.Told.TheVariants.{Done, Refused}
 use Rattle.facts.specs.declared.Tuple.{Tuple}
 use Rattle.words.specs.declared.Key.{Key}
 use Rattle.names.specs.Keys.{keys_at, place_of}
@@ -38,34 +36,8 @@ use Rattle.facts.specs.Noting.{Findable, noted, PutIn}
 use Rattle.facts.specs.PartLaws.{length_part, part_at, part-lent, set-behind, paste-in, paste-before, paste-behind}
 use Rattle.facts.specs.WordLaws.{live-ext, fact-count, index-rows, index-holds, index_stays}
 use Rattle.facts.proofs.IndexLaws.{entered}
-
--- ===== One row =====
-
--- the first j words of row i are those of the row
-pub record Agreed (facts row : List ℕ) (i j : ℕ) : Type 0 where
-  pub few : j ≤ fact_words
-  pub each : (m : ℕ) → m < j → same_word facts row i m ≡ true
-
-pub agreed-start : (facts row : List ℕ) (i : ℕ) → Agreed facts row i 0
-agreed-start facts row i = record { few = omega arith; each = λ m h. absurd (omega arith) }
-
-module _ (facts row : List ℕ) (i : ℕ) {j : ℕ} (a : Agreed facts row i j) where
-  pub agreed-on : j < fact_words → get_or facts (i * fact_words + j) 0 ≡ get_or row j 0 → Agreed facts row i (j + 1)
-  agreed-on h e = record { few = omega arith; each = λ m l. go m l (flag (eqb m j)) }
-    where
-      go : (m : ℕ) → m < j + 1 → Flag (eqb m j) → same_word facts row i m ≡ true
-      go m l (is_true q) = rw (eqb-true m j q) (eq-eqb (get_or facts (i * fact_words + j) 0) (get_or row j 0) e)
-      go m l (is_false q) = let n = eqb-false m j q in a.each m (omega (arith, n))
-
-  pub agreed-no : j < fact_words → (get_or facts (i * fact_words + j) 0 ≡ get_or row j 0 → ⊥) → false ≡ row_is facts row i
-  agreed-no h n = go (flag (row_is facts row i))
-    where
-      go : Flag (row_is facts row i) → false ≡ row_is facts row i
-      go (is_true e) = absurd (n (eqb-true _ _ (below-every fact_words (same_word facts row i) j e h)))
-      go (is_false e) = sym e
-
-  pub agreed-all : fact_words ≤ j → true ≡ row_is facts row i
-  agreed-all h = sym (every-below fact_words (same_word facts row i) (λ m l. a.each m (omega arith)))
+use Rattle.refusal.specs.declared.Refusal.{Refusal}
+use Rattle.std.specs.Prelude.{Err, Ok, Result}
 
 -- ===== The search =====
 
@@ -125,33 +97,6 @@ module _ {facts index row : List ℕ} {b at : ℕ} (l : Looked facts index row b
   look-on e t = record { chain = chain-on l.chain n e t }
 
 -- ===== One more =====
-
--- j words of the row stand behind the others
-pub record Writing (s row : List ℕ) (i j : ℕ) (t : List ℕ) : Type 0 where
-  pub few : j ≤ fact_words
-  pub words : t ≡ paste s i row j
-
-pub writing_start : (s row : List ℕ) (i : ℕ) → Writing s row i 0 s
-writing_start s row i = record { few = omega arith; words = paste-zero s i row }
-
-module _ {s row t : List ℕ} {n j : ℕ} (r : state_words ≤ length s) (h : n < most_facts) (e : length row ≡ fact_words) (w : Writing s row (facts_base + n * fact_words) j t) where
-  pub writing-size : length t ≡ length s
-  writing-size = ap length w.words ∙ length-paste s (facts_base + n * fact_words) row j (omega (arith, w.few)) (omega (arith, w.few))
-
-  pub writing-room : j < fact_words → facts_base + n * fact_words + j < length t
-  writing-room k = omega (arith, writing-size)
-
-  pub writing-on : j < fact_words → Writing s row (facts_base + n * fact_words) (j + 1) (set t (facts_base + n * fact_words + j) (get_or row j 0))
-  writing-on k =
-      let i : ℕ = facts_base + n * fact_words in
-      let z : suc j ≡ j + 1 = omega arith in
-      record {
-        few = omega arith;
-        words = ap (λ (y : List ℕ). set y (i + j) (get_or row j 0)) w.words ∙ (paste-suc s i row j 0 (omega arith) (omega arith) ∙ ap (paste s i row) z);
-      }
-
-  pub writing-done : fact_words ≤ j → t ≡ paste s (facts_base + n * fact_words) row fact_words
-  writing-done k = let f = w.few in let z : j ≡ fact_words = omega arith in w.words ∙ ap (paste s (facts_base + n * fact_words) row) z
 
 -- the row behind the facts, and at the head of bucket b
 module _ (s : List ℕ) (l : Live) (row : List ℕ) (b : ℕ) where
@@ -283,7 +228,7 @@ module _ {ar s : List ℕ} {l : Live} (row : List ℕ) (g : GoodLive s l) (x : F
     lent-facts : r ≡ is_fact (part s facts_base (l.facts * fact_words)) row
     lent-facts = q ∙ ap (λ (y : List ℕ). is_fact y row) (part-lent s facts_base (l.facts * fact_words))
 
-    pub note-again : r ≡ true → Living ar (fact_line (live_of s l) row) s (Done (record { objects = l.objects; facts = l.facts; count = 0; total = 0 })) s
+    pub note-again : r ≡ true → Living ar (fact_line (live_of s l) row) s (Ok (record { objects = l.objects; facts = l.facts; count = 0; total = 0 })) s
     unfolding fact_line begun_again live_of
     note-again t = record {
       lives = (
@@ -294,12 +239,12 @@ module _ {ar s : List ℕ} {l : Live} (row : List ℕ) (g : GoodLive s l) (x : F
     }
 
     module _ (t : r ≡ false) where
-      pub note-space : most_facts ≤ l.facts → Living ar (fact_line (live_of s l) row) s (Refused Space) s
+      pub note-space : most_facts ≤ l.facts → Living ar (fact_line (live_of s l) row) s (Err Space) s
       unfolding fact_line live_of
       note-space h = record { lives = (rw (← lent-facts, t, fact-count g, le-leb most_facts l.facts h), refl) }
 
       pub note-done : {b : ℕ} {u : List ℕ} → 1 ≤ l.objects → (b ≡ bucket_at ar row 0) × (b < buckets) → l.facts < most_facts → PutIn s l row b u
-          → Living ar (fact_line (live_of s l) row) s (Done (noted l)) u
+          → Living ar (fact_line (live_of s l) row) s (Ok (noted l)) u
       unfolding fact_line live_of
       note-done o e h p = record {
         lives = (
@@ -310,7 +255,7 @@ module _ {ar s : List ℕ} {l : Live} (row : List ℕ) (g : GoodLive s l) (x : F
       }
 
 module _ (ar table s : List ℕ) (n : Counts) (l : Live) (k : Key) (o : Tuple) (row : List ℕ) {i : ℕ} (p : i ≡ place_of k (keys_at table declared_at n.predicates)) where
-  pub tell-name : n.predicates ≤ i → Telling ar table n s l k o row (Refused Name) s
+  pub tell-name : n.predicates ≤ i → Telling ar table n s l k o row (Err Name) s
   unfolding true_line names_of
   tell-name h = record { told = λ os w. record { lives = (rw (among_none table declared_at n.predicates k p h), refl) } }
 
@@ -318,7 +263,7 @@ module _ (ar table s : List ℕ) (n : Counts) (l : Live) (k : Key) (o : Tuple) (
     predicate-at : get_or ar (i + 1) 0 ≡ get_or ar (suc (place_of k (keys_at table declared_at n.predicates))) 0
     predicate-at = let e : i + 1 ≡ suc (place_of k (keys_at table declared_at n.predicates)) = omega arith in ap (λ (j : ℕ). get_or ar j 0) e
 
-    pub tell-arity : (o.count ≡ get_or ar (i + 1) 0 → ⊥) → Telling ar table n s l k o row (Refused Arity) s
+    pub tell-arity : (o.count ≡ get_or ar (i + 1) 0 → ⊥) → Telling ar table n s l k o row (Err Arity) s
     unfolding true_line names_of
     tell-arity e = record {
       told = λ os w. record {
@@ -330,7 +275,7 @@ module _ (ar table s : List ℕ) (n : Counts) (l : Live) (k : Key) (o : Tuple) (
     }
 
     module _ (e : o.count ≡ get_or ar (i + 1) 0) where
-      pub tell-range : o.within ≡ false → Telling ar table n s l k o row (Refused Range) s
+      pub tell-range : o.within ≡ false → Telling ar table n s l k o row (Err Range) s
       unfolding true_line names_of live_of
       tell-range b = record {
         told = λ os w. record {
@@ -341,7 +286,7 @@ module _ (ar table s : List ℕ) (n : Counts) (l : Live) (k : Key) (o : Tuple) (
         };
       }
 
-      pub tell-done : {r : Told} {t : List ℕ} → o.within ≡ true → Living ar (fact_line (live_of s l) (set row 0 (i + 1))) s r t → Telling ar table n s l k o row r t
+      pub tell-done : {r : Result Live Refusal} {t : List ℕ} → o.within ≡ true → Living ar (fact_line (live_of s l) (set row 0 (i + 1))) s r t → Telling ar table n s l k o row r t
       unfolding true_line names_of live_of
       tell-done {r} {t} b v = record {
         told = λ os w.

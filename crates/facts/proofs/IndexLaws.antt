@@ -3,9 +3,12 @@ use mathlib.Core.Path.{◌≡◌, refl, sym, ap, subst, ◌∙◌}
 use mathlib.Core.List.{List}
 use Prim.Native.Nat.{ℕ, ◌+◌, ◌*◌, ◌-◌, ◌<◌, ◌≤◌}
 use native.Mathlib.Omega.{arith}
+use borrow.Author.Rules.{rules}
+use borrow.Rule.Slice.PartMut.{put_mid}
+use Rattle.std.proofs.lemmas.List.{places}
+use Rattle.std.proofs.lemmas.Slice.{take-put_mid_below}
 use lib.ListN.{length, get_or, set, take, drop, length-set}
-use lib.Seq.{get_or-take, get_or-set_same, get_or-set_other, take-set-le}
-use Rattle.basics.specs.Tests.{Cmp, below, equal, above, cmp}
+use lib.Seq.{get_or-take, take-set-le}
 use Rattle.state.specs.Lent.{fact_words, most_facts}
 use Rattle.fact_index.specs.Inner.{bucket_at, Indexed, Clean}
 use Rattle.fact_index.specs.Index.{buckets}
@@ -53,34 +56,24 @@ entered s i h l m =
 
 -- ===== Every bucket cleared =====
 
-pub record Heading (s t : List ℕ) (b : ℕ) : Type 0 where
-  pub stays : Reindexed s t
-  pub few : b ≤ buckets
-  pub heads : (j : ℕ) → j < b → get_or t (index_base + j) 0 ≡ 0
+module _ (s m : List ℕ) (a k : ℕ) (h : a + k ≤ length s) (e : length m ≡ k) where
+  put-size : length (put_mid a k s m) ≡ length s
+  put-size = search (rules, places)
 
-pub heading-start : (s : List ℕ) → Heading s s 0
-heading-start s = record { stays = reindexed-start s; few = omega arith; heads = λ j h. absurd (omega arith) }
+  put-word : (j : ℕ) → j < k → get_or (put_mid a k s m) (a + j) 0 ≡ get_or m j 0
+  put-word j l = search (rules, places)
 
-module _ {s t : List ℕ} {b : ℕ} (r : state_words ≤ length s) (w : Heading s t b) where
-  pub heading-room : b < buckets → index_base + b < length t
-  heading-room h = reindexed-room b r w.stays (omega arith)
-
-  pub heading-on : b < buckets → Heading s (set t (index_base + b) 0) (b + 1)
-  heading-on h = record { stays = reindexed-set (index_base + b) 0 (omega arith) w.stays; few = omega arith; heads = λ j l. each j l (cmp j b) }
-    where
-      each : (j : ℕ) → j < b + 1 → Cmp j b → get_or (set t (index_base + b) 0) (index_base + j) 0 ≡ 0
-      each j l (below c) = get_or-set_other t (index_base + b) (index_base + j) 0 0 (omega arith) ∙ w.heads j c
-      each j l (equal c) = rw c (get_or-set_same t (index_base + b) 0 0 (heading-room h))
-      each j l (above c) = absurd (omega arith)
-
-  pub heading-done : buckets ≤ b → Unindexed s t
-  heading-done h = record {
-    stays = w.stays;
-    clean = record {
-      places = omega (arith, w.stays.size, length_part t index_base index_words (omega (arith, w.stays.size)));
-      heads = λ j l. part_at t index_base index_words j (omega arith) ∙ w.heads j (omega arith);
-    };
-  }
+pub heads-cleared : (s m : List ℕ) → state_words ≤ length s → length m ≡ buckets → ((j : ℕ) → j < buckets → get_or m j 0 ≡ 0) → Unindexed s (put_mid index_base buckets s m)
+heads-cleared s m r e z =
+    let t : List ℕ = put_mid index_base buckets s m in
+    let size : length t ≡ length s = put-size s m index_base buckets (omega arith) e in
+    record {
+      stays = record { size = size; front = take-put_mid_below index_base buckets s m index_base (omega arith) (omega arith) };
+      clean = record {
+        places = omega (arith, length_part t index_base index_words (omega arith));
+        heads = λ j h. part_at t index_base index_words j (omega arith) ∙ put-word s m index_base buckets (omega arith) e j h ∙ z j h;
+      };
+    }
 
 pub open_done : {s t u : List ℕ} → Unplaced s t facts_base → Unindexed t u → Emptied s u
 open_done {s} {t} {u} p x = record {

@@ -1,12 +1,11 @@
 -- Laws of a state in lent words, one for each way out of a line.
-use mathlib.Core.Path.{◌≡◌, refl, sym, ap, subst, ◌∙◌}
+use mathlib.Core.Path.{◌≡◌, refl, sym, ap, ◌∙◌}
 use mathlib.Core.List.{List}
 use Prim.Native.Nat.{ℕ, ◌+◌, ◌*◌, ◌<◌, ◌≤◌}
 use native.Mathlib.Omega.{arith}
 use borrow.Author.Tests.{le-leb, lt-leb, ne_eqb}
-use lib.ListN.{length, get_or, set, drop, length-set}
-use lib.Seq.{drop-drop, get_or-set_same, get_or-set_other, take-set-lt, take-set-le, drop-set-lt}
-use Rattle.basics.specs.Tests.{Cmp, below, equal, above, cmp}
+use lib.ListN.{length, get_or, set, length-set}
+use lib.Seq.{take-set-lt, take-set-le}
 use Rattle.label.specs.Limits.{constant_count}
 use Rattle.refusal.specs.declared.Refusal.TheVariants.{Name, Range}
 use Rattle.words.specs.declared.Key.{Key}
@@ -21,45 +20,25 @@ use Rattle.session.specs.Facts.{objects_line, is_line, cleared, placed}
 use Rattle.declare.specs.declared.Counts.{Counts}
 use Rattle.declare.specs.Tables.{names_of, GoodNames}
 use Rattle.facts.specs.declared.Live.{Live}
-use Rattle.facts.specs.declared.Told.TheVariants.{Done, Refused}
 use Rattle.facts.specs.Inner.{Living, Placing, Unindexed, Unplaced}
-use Rattle.facts.specs.Words.{part, live_of, GoodLive, placed_base, facts_base, index_base, index_words, state_words}
+use Rattle.facts.specs.Words.{part, live_of, GoodLive, placed_base, facts_base, index_base, index_words}
 use Rattle.facts.specs.PartLaws.{part_at, same-behind, set-in, set_before}
 use Rattle.facts.specs.WordLaws.{live-ext, cleared-live, index-rows, index_stays}
+use Rattle.std.specs.Prelude.{Err, Ok}
 
 -- ===== (objects n) =====
 
-pub clear-begin : (s : List ℕ) → Unplaced s s 0
-clear-begin s = record { cleared = record { size = refl; zeros = λ i h. absurd (omega arith) }; rest = refl }
-
-pub clear_next : (s t : List ℕ) (n : ℕ) → state_words ≤ length s → n < facts_base → Unplaced s t n → Unplaced s (set t n 0) (n + 1)
-clear_next s t n w u c = record {
-  cleared = record { size = rw length-set c.cleared.size; zeros = λ i h. go i h (cmp i n) };
-  rest = drop-set-lt (n + 1) t n 0 (omega arith) ∙ (sym (drop-drop 1 n t) ∙ (ap (drop 1) c.rest ∙ drop-drop 1 n s));
-}
-  where
-    go : (i : ℕ) → i < n + 1 → Cmp i n → get_or (set t n 0) i 0 ≡ 0
-    go i h (below q) = get_or-set_other t n i 0 0 (omega arith) ∙ c.cleared.zeros i q
-    go i h (equal q) = rw q (get_or-set_same t n 0 0 (let m = c.cleared.size in omega arith))
-    go i h (above q) = absurd (omega arith)
-
-pub room-kept : (s t : List ℕ) (n i : ℕ) → state_words ≤ length s → Unplaced s t n → i < facts_base → i < length t
-room-kept s t n i r c h = let e = c.cleared.size in omega arith
-
-pub clear-end : (s t : List ℕ) (n : ℕ) → Unplaced s t n → n ≤ facts_base → facts_base ≤ n → Unplaced s t facts_base
-clear-end s t n c h k = let e : n ≡ facts_base = omega arith in subst (Unplaced s t) e c
-
 module _ (ar s : List ℕ) (n : ℕ) where
-  pub objects-none : n ≡ 0 → Living ar (objects_line n) s (Refused Range) s
+  pub objects-none : n ≡ 0 → Living ar (objects_line n) s (Err Range) s
   unfolding objects_line
   objects-none e = record { lives = (rw e, refl) }
 
-  pub objects-many : (n ≡ 0 → ⊥) → most_objects < n → Living ar (objects_line n) s (Refused Range) s
+  pub objects-many : (n ≡ 0 → ⊥) → most_objects < n → Living ar (objects_line n) s (Err Range) s
   unfolding objects_line
   objects-many z h = record { lives = (rw (le-leb 1 n (omega arith), lt-leb n most_objects h), refl) }
 
   pub objects-done : {u t : List ℕ} (l : Live) → (n ≡ 0 → ⊥) → n ≤ most_objects → GoodLive s l → Unindexed s u → Unplaced u t facts_base
-      → Living ar (objects_line n) s (Done (record { objects = n; facts = 0; count = 0; total = 0 })) t
+      → Living ar (objects_line n) s (Ok (record { objects = n; facts = 0; count = 0; total = 0 })) t
   unfolding objects_line cleared
   objects-done {u} {t} l z h g x c =
       let r = g.room in
@@ -77,7 +56,7 @@ module _ (ar s : List ℕ) (n : ℕ) where
 -- ===== (is c o) =====
 
 module _ (table s : List ℕ) (n : Counts) (l : Live) (k : Key) (o : ℕ) {c : ℕ} (p : c ≡ place_of k (keys_at table constants_at n.constants)) where
-  pub place-unknown : n.constants ≤ c → Placing (is_line (names_of table n) (live_of s l) k o) s l (Refused Name) s
+  pub place-unknown : n.constants ≤ c → Placing (is_line (names_of table n) (live_of s l) k o) s l (Err Name) s
   unfolding is_line names_of
   place-unknown h = record { living = λ ar x. record { lives = (rw (among_none table constants_at n.constants k p h), refl) } }
 
@@ -85,14 +64,14 @@ module _ (table s : List ℕ) (n : Counts) (l : Live) (k : Key) (o : ℕ) {c : �
   placed_at h = part_at s placed_base constant_count c h
 
   module _ (g : GoodNames table n) (h : c < n.constants) where
-    pub place-again : get_or s (placed_base + c) 0 ≡ 1 → Placing (is_line (names_of table n) (live_of s l) k o) s l (Refused Name) s
+    pub place-again : get_or s (placed_base + c) 0 ≡ 1 → Placing (is_line (names_of table n) (live_of s l) k o) s l (Err Name) s
     unfolding is_line names_of live_of
     place-again e =
         let f = g.constants in
         record { living = λ ar x. record { lives = (rw (among-at table constants_at n.constants k p h, ← p, placed_at (omega arith), e), refl) } }
 
     module _ (e : get_or s (placed_base + c) 0 ≡ 1 → ⊥) where
-      pub place-beyond : l.objects ≤ o → Placing (is_line (names_of table n) (live_of s l) k o) s l (Refused Range) s
+      pub place-beyond : l.objects ≤ o → Placing (is_line (names_of table n) (live_of s l) k o) s l (Err Range) s
       unfolding is_line names_of live_of
       place-beyond b =
           let f = g.constants in
@@ -105,7 +84,7 @@ module _ (table s : List ℕ) (n : Counts) (l : Live) (k : Key) (o : ℕ) {c : �
             };
           }
 
-      pub place-done : GoodLive s l → o < l.objects → Placing (is_line (names_of table n) (live_of s l) k o) s l (Done l) (set (set s (placed_base + c) 1) c o)
+      pub place-done : GoodLive s l → o < l.objects → Placing (is_line (names_of table n) (live_of s l) k o) s l (Ok l) (set (set s (placed_base + c) 1) c o)
       unfolding is_line names_of live_of placed
       place-done v b =
           let f = g.constants in

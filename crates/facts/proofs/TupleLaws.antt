@@ -20,9 +20,6 @@ use Rattle.events.specs.Contents.{number_in, numbers_in}
 use Rattle.facts.specs.declared.Tuple.{Tuple}
 use Rattle.facts.specs.Inner.{EmptyRow, TupleOf, tuple_more, kept, most_bytes}
 
-pub still-on : (b : Bool) (v n : ℕ) → b ≡ true → ltb v n ≡ (b && ltb v n)
-still-on b v n e = rw e
-
 pub add_done : (t : Tuple) (v n : ℕ) {b : Bool} → b ≡ (t.within && ltb v n) → record { count = t.count + 1; within = b } ≡ tuple_more t v n
 unfolding tuple_more
 add_done t v n a = λ i. record { count = t.count + 1; within = a i }

@@ -11,9 +11,9 @@ use Rattle.declare.specs.declared.Counts.{Counts}
 use Rattle.declare.specs.Tables.{names_of}
 use Rattle.facts.specs.declared.Tuple.{Tuple}
 use Rattle.facts.specs.declared.Live.{Live}
-use Rattle.facts.specs.declared.Told.{Told}
-use Rattle.facts.specs.declared.Told.TheVariants.{Done, Refused}
 use Rattle.facts.specs.Words.{facts_base, index_base, index_words, part, live_of, GoodLive}
+use Rattle.refusal.specs.declared.Refusal.{Refusal}
+use Rattle.std.specs.Prelude.{Err, Ok, Result}
 
 -- a line has at most 4,095 bytes
 abbrev pub most_bytes : ℕ
@@ -51,16 +51,16 @@ pub record Remade (ar s : List ℕ) (l : Live) (t : List ℕ) : Type 0 where
 
 -- ===== Lines =====
 
-abbrev pub Lives : List ℕ → Outcome SessionLive → List ℕ → Told → List ℕ → Type 0
-Lives ar o s (Done l) t = (o ≡ ok (live_of t l)) × GoodLive t l × FactIndex ar t l
-Lives ar o s (Refused r) t = (o ≡ refused r) × (t ≡ s)
+abbrev pub Lives : List ℕ → Outcome SessionLive → List ℕ → Result Live Refusal → List ℕ → Type 0
+Lives ar o s (Ok l) t = (o ≡ ok (live_of t l)) × GoodLive t l × FactIndex ar t l
+Lives ar o s (Err r) t = (o ≡ refused r) × (t ≡ s)
 
 -- the state behind an accepted line, with the index of its facts; a refused one leaves the words as they were
-pub record Living (ar : List ℕ) (o : Outcome SessionLive) (s : List ℕ) (r : Told) (t : List ℕ) : Type 0 where
+pub record Living (ar : List ℕ) (o : Outcome SessionLive) (s : List ℕ) (r : Result Live Refusal) (t : List ℕ) : Type 0 where
   pub lives : Lives ar o s r t
 
 -- the same, whatever the arity list is: facts stay
-pub record Placing (o : Outcome SessionLive) (s : List ℕ) (l : Live) (r : Told) (t : List ℕ) : Type 0 where
+pub record Placing (o : Outcome SessionLive) (s : List ℕ) (l : Live) (r : Result Live Refusal) (t : List ℕ) : Type 0 where
   pub living : (ar : List ℕ) → FactIndex ar s l → Living ar o s r t
 
 -- the first n words are 0
@@ -98,5 +98,5 @@ unfoldable pub kept : List ℕ → ℕ → ℕ → List ℕ
 kept row count v = cond (ltb count most_places) (set row (1 + count) v) row
 
 -- a line (true p o ..) whose predicate has the key k and whose objects os are kept as o and the row
-pub record Telling (ar table : List ℕ) (n : Counts) (s : List ℕ) (l : Live) (k : Key) (o : Tuple) (row : List ℕ) (r : Told) (t : List ℕ) : Type 0 where
+pub record Telling (ar table : List ℕ) (n : Counts) (s : List ℕ) (l : Live) (k : Key) (o : Tuple) (row : List ℕ) (r : Result Live Refusal) (t : List ℕ) : Type 0 where
   pub told : (os : List ℕ) → TupleOf l.objects os o row → Living ar (true_line ar (names_of table n) (live_of s l) k os) s r t

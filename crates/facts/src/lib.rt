@@ -29,13 +29,6 @@ pub struct Live {
     pub total: u64,
 }
 
-// What a line of the state answers: the numbers then, or why it is refused.
-#[derive(Clone, Copy)]
-pub enum Told {
-    Done(Live),
-    Refused(Refusal),
-}
-
 // Objects and facts of a state at most.
 pub const OBJECTS: u64 = 64;
 
@@ -61,11 +54,7 @@ fn clear(state: &mut [u64])
     requires { state_words ≤ length state.old }
     ensures { Unplaced state.old state.new facts_base }
 {
-    let mut i = 0;
-    while i < FACTS_BASE {
-        state[i] = 0;
-        i += 1;
-    }
+    state[..FACTS_BASE].fill(0);
 }
 
 // Takes every row out of the index, whatever it is.
@@ -73,11 +62,7 @@ fn clear_heads(state: &mut [u64])
     requires { state_words ≤ length state.old }
     ensures { Unindexed state.old state.new }
 {
-    let mut b = 0;
-    while b < fact_index::BUCKETS {
-        state[INDEX_BASE + b] = 0;
-        b += 1;
-    }
+    state[INDEX_BASE..INDEX_BASE + fact_index::BUCKETS].fill(0);
 }
 
 // A state before the first (objects n).
@@ -97,11 +82,9 @@ pub fn unindex(arities: &[u64], state: &mut [u64], rows: usize)
     ensures { Unindexed state.old state.new }
 {
     let end = FACTS_BASE + rows * FACT_WORDS;
-    let mut i = 0;
-    while i < rows {
+    for i in 0..rows {
         let h = fact_index::row_bucket(arities, &state[FACTS_BASE..end], i);
         state[INDEX_BASE + h] = 0;
-        i += 1;
     }
 }
 
@@ -113,12 +96,10 @@ pub fn index(arities: &[u64], state: &mut [u64], rows: usize)
     ensures { Rowed arities.now state.old rows state.new }
 {
     let end = FACTS_BASE + rows * FACT_WORDS;
-    let mut i = 0;
-    while i < rows {
+    for i in 0..rows {
         let h = fact_index::row_bucket(arities, &state[FACTS_BASE..end], i);
         state[INDEX_BASE + fact_index::BUCKETS + i] = state[INDEX_BASE + h];
         state[INDEX_BASE + h] = (i + 1) as u64;
-        i += 1;
     }
 }
 
@@ -147,20 +128,20 @@ fn forget(arities: &[u64], state: &mut [u64], live: Live)
 }
 
 // (objects n)
-pub fn objects(arities: &[u64], state: &mut [u64], live: Live, n: u64) -> Told
+pub fn objects(arities: &[u64], state: &mut [u64], live: Live, n: u64) -> Result<Live, Refusal>
     requires good_live { GoodLive state.old live }
     requires fact_index { FactIndex arities.now state.old live }
     ensures { Living arities.now (objects_line n) state.old result state.new }
 {
     if n == 0 {
-        return Told::Refused(Refusal::Range);
+        return Err(Refusal::Range);
     }
     if n > OBJECTS {
-        return Told::Refused(Refusal::Range);
+        return Err(Refusal::Range);
     }
     forget(arities, state, live);
     clear(state);
-    Told::Done(Live {
+    Ok(Live {
         objects: n,
         facts: 0,
         count: 0,
@@ -169,24 +150,31 @@ pub fn objects(arities: &[u64], state: &mut [u64], live: Live, n: u64) -> Told
 }
 
 // (is c o)
-pub fn place(table: &[u64], n: Counts, state: &mut [u64], live: Live, key: Key, o: u64) -> Told
+pub fn place(
+    table: &[u64],
+    n: Counts,
+    state: &mut [u64],
+    live: Live,
+    key: Key,
+    o: u64,
+) -> Result<Live, Refusal>
     requires good_names { GoodNames table.now n }
     requires good_live { GoodLive state.old live }
     ensures { Placing (is_line (names_of table.now n) (live_of state.old live) key o) state.old live result state.new }
 {
     let c = names::find(table, names::CONSTANTS, n.constants, key);
     if c >= n.constants {
-        return Told::Refused(Refusal::Name);
+        return Err(Refusal::Name);
     }
     if state[PLACED + c] == 1 {
-        return Told::Refused(Refusal::Name);
+        return Err(Refusal::Name);
     }
     if o >= live.objects {
-        return Told::Refused(Refusal::Range);
+        return Err(Refusal::Range);
     }
     state[PLACED + c] = 1;
     state[c] = o;
-    Told::Done(live)
+    Ok(live)
 }
 
 // The objects of a (true p o ..): how many, and whether each is one of the state.
@@ -202,14 +190,7 @@ fn row_is(facts: &[u64], i: usize, row: &[u64]) -> bool
     requires row_len { length row.now ≡ fact_words }
     ensures { result ≡ row_is facts.now row.now i }
 {
-    let mut j = 0;
-    while j < FACT_WORDS {
-        if facts[i * FACT_WORDS + j] != row[j] {
-            return false;
-        }
-        j += 1;
-    }
-    true
+    facts[i * FACT_WORDS..(i + 1) * FACT_WORDS] == row[..]
 }
 
 // Whether the row, whose bucket is lent, is one of the facts: they are all in the index.
@@ -237,11 +218,7 @@ fn write_row(state: &mut [u64], facts: usize, row: &[u64])
     ensures { state.new ≡ paste state.old (facts_base + facts * fact_words) row.now fact_words }
 {
     let base = FACTS_BASE + facts * FACT_WORDS;
-    let mut j = 0;
-    while j < FACT_WORDS {
-        state[base + j] = row[j];
-        j += 1;
-    }
+    state[base..base + FACT_WORDS].copy_from_slice(row);
 }
 
 // Writes the row behind the others, and enters it in its bucket.
@@ -258,7 +235,7 @@ fn put(state: &mut [u64], live: Live, row: &[u64], bucket: usize)
 }
 
 // Adds the row unless it is there; count and total begin again.
-fn note(arities: &[u64], state: &mut [u64], live: Live, row: &[u64]) -> Told
+fn note(arities: &[u64], state: &mut [u64], live: Live, row: &[u64]) -> Result<Live, Refusal>
     requires good_live { GoodLive state.old live }
     requires fact_index { FactIndex arities.now state.old live }
     requires le_objects { 1 ≤ live.objects }
@@ -273,22 +250,21 @@ fn note(arities: &[u64], state: &mut [u64], live: Live, row: &[u64]) -> Told
         row,
         bucket,
     ) {
-        return Told::Done(Live {
-            objects: live.objects,
-            facts: live.facts,
+        return Ok(Live {
             count: 0,
             total: 0,
+            ..live
         });
     }
     if live.facts >= FACTS {
-        return Told::Refused(Refusal::Space);
+        return Err(Refusal::Space);
     }
     put(state, live, row, bucket);
-    Told::Done(Live {
-        objects: live.objects,
+    Ok(Live {
         facts: live.facts + 1,
         count: 0,
         total: 0,
+        ..live
     })
 }
 
@@ -302,7 +278,7 @@ pub fn tell(
     key: Key,
     o: Tuple,
     row: &mut [u64],
-) -> Told
+) -> Result<Live, Refusal>
     requires good_vocabulary { GoodVocabulary table.now arities.now n }
     requires good_live { GoodLive state.old live }
     requires fact_index { FactIndex arities.now state.old live }
@@ -312,17 +288,17 @@ pub fn tell(
 {
     let i = names::find(table, names::DECLARED, n.predicates, key);
     if i >= n.predicates {
-        return Told::Refused(Refusal::Name);
+        return Err(Refusal::Name);
     }
     let p = i + 1;
     if o.count != arities[p] {
-        return Told::Refused(Refusal::Arity);
+        return Err(Refusal::Arity);
     }
     if o.within {
         row[0] = p as u64;
         return note(arities, state, live, row);
     }
-    Told::Refused(Refusal::Range)
+    Err(Refusal::Range)
 }
 
 // Keeps object v of a line, behind `count` others, in the row's place for it, if there is one.
@@ -340,10 +316,7 @@ fn keep(row: &mut [u64], count: u64, v: u64)
 fn still(within: bool, v: u64, n: u64) -> bool
     ensures { result ≡ (within && ltb v n) }
 {
-    if within {
-        return v < n;
-    }
-    false
+    within && v < n
 }
 
 // One object more.

@@ -6,8 +6,6 @@ use Rattle.words.specs.Bytes.{is_name_byte}
 use Rattle.words.specs.Inner.{name_form}
 use Rattle.words.specs.Words.{IsName, IsNumber}
 use Rattle.words.specs.WordLaws.{bytes_eq, name-complete, name-first}
-use Rattle.words.specs.declared.Took.{Took}
-use Rattle.words.specs.declared.Took.TheVariants.{Bytes}
 use Rattle.forms.specs.declared.Sort.TheVariants.{Any}
 use Rattle.forms.specs.Form.{item_form, atom_form, diagram_form}
 use Rattle.forms.specs.Tree.{Term, Atom, Diagram, many_bytes, term_bytes, atom_bytes, diagram_bytes, All, GoodTerm, GoodAtom, GoodDiagram, brackets}
@@ -16,9 +14,10 @@ use Rattle.forms.specs.Tree.Term.{term}
 use Rattle.forms.specs.Tree.Atom.{equal, holds}
 use Rattle.forms.specs.Tree.Diagram.{number, branch}
 use Rattle.forms.specs.Complete.{CompleteFor, space-stops, close-stops, many-stops, term-completes, atom-complete, if-assoc, digit-first, diagram-complete}
+use Rattle.std.specs.Prelude.{Option, Some}
 
 -- one reader, the same bytes: it takes the same from both
-pub split : (p : List ℕ → Took) (A B X Y : List ℕ) → A ++ X ≡ B ++ Y → p (A ++ X) ≡ Bytes (length A) → p (B ++ Y) ≡ Bytes (length B)
+pub split : (p : List ℕ → Option ℕ) (A B X Y : List ℕ) → A ++ X ≡ B ++ Y → p (A ++ X) ≡ Some (length A) → p (B ++ Y) ≡ Some (length B)
     → (A ≡ B) × (X ≡ Y)
 split p A B X Y e a b =
     let l : length B ≡ length A = bytes_eq (sym b ∙ ap p (sym e) ∙ a) in (
@@ -58,7 +57,7 @@ term-unique (term minimum n) (term minimum m) g h e = ap (term minimum) (cons_ta
 abbrev pub UniqueFor : {A : Type 0} → (A → List ℕ) → (A → Type 0) → Type 0
 UniqueFor {A} w G = (x y : A) → G x → G y → w x ≡ w y → x ≡ y
 
-module _ {A : Type 0} (w : A → List ℕ) (G : A → Type 0) (p : List ℕ → Took) (d : CompleteFor w G p) (o : UniqueFor w G) where
+module _ {A : Type 0} (w : A → List ℕ) (G : A → Type 0) (p : List ℕ → Option ℕ) (d : CompleteFor w G p) (o : UniqueFor w G) where
   pub many-unique : (xs ys : List A) (q r : List ℕ) → All G xs → All G ys
       → many_bytes w xs ++ (41 ∷ q) ≡ many_bytes w ys ++ (41 ∷ r) → (xs ≡ ys) × (q ≡ r)
   many-unique [] [] q r g h e = (refl, cons_tail 41 q r e)

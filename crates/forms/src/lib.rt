@@ -21,8 +21,6 @@ ghost use Rattle.forms.specs.Form.{
   diagram_form,
 };
 
-use words::Took;
-
 // The sorts of single words.
 #[derive(Clone, Copy)]
 pub enum Sort {
@@ -34,64 +32,57 @@ pub enum Sort {
 }
 
 // The byte b at the place that t answered.
-pub fn byte_after(s: &[u8], t: Took, b: u8) -> Took
+pub fn byte_after(s: &[u8], t: Option<usize>, b: u8) -> Option<usize>
     requires { 0 < b }
     ensures { result ≡ t ▹ byte s.now b }
 {
-    let Took::Bytes(i) = t else {
-        return Took::Refused;
-    };
+    let i = t?;
     if words::byte_at(s, i) == b {
-        let j = i + 1;
-        Took::Bytes(j)
+        Some(i + 1)
     } else {
-        Took::Refused
+        None
     }
 }
 
 // A name at the place that t answered.
-fn name_after(s: &[u8], t: Took) -> Took
+fn name_after(s: &[u8], t: Option<usize>) -> Option<usize>
     ensures { result ≡ t ▹ form s.now name_form }
 {
-    let Took::Bytes(i) = t else {
-        return Took::Refused;
-    };
-    let Took::Bytes(n) = words::read_name(words::rest(s, i)) else {
-        return Took::Refused;
-    };
-    let j = i + n;
-    Took::Bytes(j)
+    let i = t?;
+    let n = words::read_name(words::rest(s, i))?;
+    Some(i + n)
 }
 
 // The mark b and a name.
-fn read_marked(s: &[u8], b: u8) -> Took
+fn read_marked(s: &[u8], b: u8) -> Option<usize>
     requires { 0 < b }
     ensures { result ≡ marked_form b s.now }
 {
-    let a = byte_after(s, Took::Bytes(0), b);
+    let a = byte_after(s, Some(0), b);
     name_after(s, a)
 }
 
 // The byte before the name of a variable, a parameter or a minimum variable.
+#[tactic(auto, unfolding(crate::specs::Form::is_mark))]
 fn is_mark(b: u8) -> bool
     ensures { result ≡ is_mark b }
 {
-    b == b'?' || (b == b'!' || b == b'%')
+    matches!(b, b'?' | b'!' | b'%')
 }
 
 // name, ?name, !name or %name
-fn read_term(s: &[u8]) -> Took
+fn read_term(s: &[u8]) -> Option<usize>
     ensures { result ≡ term_form s.now }
 {
     if is_mark(words::byte_at(s, 0)) {
-        name_after(s, Took::Bytes(1))
+        name_after(s, Some(1))
     } else {
         words::read_name(s)
     }
 }
 
 // One word of a sort.
-pub fn read_item(s: &[u8], sort: Sort) -> Took
+pub fn read_item(s: &[u8], sort: Sort) -> Option<usize>
     ensures { result ≡ item_form sort s.now }
 {
     match sort {
@@ -104,55 +95,40 @@ pub fn read_item(s: &[u8], sort: Sort) -> Took
 }
 
 // One word of a sort at the place that t answered.
-pub fn item_after(s: &[u8], t: Took, sort: Sort) -> Took
+pub fn item_after(s: &[u8], t: Option<usize>, sort: Sort) -> Option<usize>
     ensures { result ≡ t ▹ form s.now (item_form sort) }
 {
-    let Took::Bytes(i) = t else {
-        return Took::Refused;
-    };
-    let Took::Bytes(n) = read_item(words::rest(s, i), sort) else {
-        return Took::Refused;
-    };
-    let j = i + n;
-    Took::Bytes(j)
+    let i = t?;
+    let n = read_item(words::rest(s, i), sort)?;
+    Some(i + n)
 }
 
 // Words of a sort, each with a space before it; none is fine.
-pub fn read_items(s: &[u8], sort: Sort) -> Took
+pub fn read_items(s: &[u8], sort: Sort) -> Option<usize>
     ensures { (f : ℕ) → length s.now < f → result ≡ many_form (item_form sort) f s.now }
 {
     if words::byte_at(s, 0) != b' ' {
-        return Took::Bytes(0);
+        return Some(0);
     }
-    let Took::Bytes(i) = item_after(s, Took::Bytes(1), sort) else {
-        return Took::Refused;
-    };
-    let Took::Bytes(m) = read_items(words::rest(s, i), sort) else {
-        return Took::Refused;
-    };
-    let j = i + m;
-    Took::Bytes(j)
+    let i = item_after(s, Some(1), sort)?;
+    let m = read_items(words::rest(s, i), sort)?;
+    Some(i + m)
 }
 
 // Words of a sort from the place that t answered.
-pub fn items_after(s: &[u8], t: Took, sort: Sort) -> Took
+pub fn items_after(s: &[u8], t: Option<usize>, sort: Sort) -> Option<usize>
     ensures { result ≡ t ▹ form s.now (many_form (item_form sort) (length s.now + 1)) }
 {
-    let Took::Bytes(i) = t else {
-        return Took::Refused;
-    };
-    let Took::Bytes(n) = read_items(words::rest(s, i), sort) else {
-        return Took::Refused;
-    };
-    let j = i + n;
-    Took::Bytes(j)
+    let i = t?;
+    let n = read_items(words::rest(s, i), sort)?;
+    Some(i + n)
 }
 
 // = TERM TERM )
-fn read_equality(s: &[u8]) -> Took
+fn read_equality(s: &[u8]) -> Option<usize>
     ensures { result ≡ equality_form s.now }
 {
-    let a = byte_after(s, Took::Bytes(0), b'=');
+    let a = byte_after(s, Some(0), b'=');
     let b = byte_after(s, a, b' ');
     let c = item_after(s, b, Sort::Any);
     let d = byte_after(s, c, b' ');
@@ -161,7 +137,7 @@ fn read_equality(s: &[u8]) -> Took
 }
 
 // name WORD .. ), words of a sort
-pub fn read_plain(s: &[u8], sort: Sort) -> Took
+pub fn read_plain(s: &[u8], sort: Sort) -> Option<usize>
     ensures { result ≡ plain_form sort s.now }
 {
     let a = words::read_name(s);
@@ -170,7 +146,7 @@ pub fn read_plain(s: &[u8], sort: Sort) -> Took
 }
 
 // What stands in an atom's brackets, with the second of them.
-fn read_inner(s: &[u8]) -> Took
+fn read_inner(s: &[u8]) -> Option<usize>
     ensures { result ≡ inner_form s.now }
 {
     if words::byte_at(s, 0) == b'=' {
@@ -181,38 +157,28 @@ fn read_inner(s: &[u8]) -> Took
 }
 
 // (= TERM TERM) or (name TERM ..)
-pub fn read_atom(s: &[u8]) -> Took
+pub fn read_atom(s: &[u8]) -> Option<usize>
     ensures { result ≡ atom_form s.now }
 {
-    let Took::Bytes(i) = byte_after(s, Took::Bytes(0), b'(') else {
-        return Took::Refused;
-    };
-    let Took::Bytes(n) = read_inner(words::rest(s, i)) else {
-        return Took::Refused;
-    };
-    let j = i + n;
-    Took::Bytes(j)
+    let i = byte_after(s, Some(0), b'(')?;
+    let n = read_inner(words::rest(s, i))?;
+    Some(i + n)
 }
 
 // A space and an atom at the place that t answered.
-fn atom_after(s: &[u8], t: Took) -> Took
+fn atom_after(s: &[u8], t: Option<usize>) -> Option<usize>
     ensures { result ≡ t ▹ byte s.now 32 ▹ form s.now atom_form }
 {
-    let Took::Bytes(i) = byte_after(s, t, b' ') else {
-        return Took::Refused;
-    };
-    let Took::Bytes(n) = read_atom(words::rest(s, i)) else {
-        return Took::Refused;
-    };
-    let j = i + n;
-    Took::Bytes(j)
+    let i = byte_after(s, t, b' ')?;
+    let n = read_atom(words::rest(s, i))?;
+    Some(i + n)
 }
 
 // if ATOM and the space behind it.
-fn if_head(s: &[u8]) -> Took
+fn if_head(s: &[u8]) -> Option<usize>
     ensures { result ≡ head_form s.now }
 {
-    let a = byte_after(s, Took::Bytes(0), b'i');
+    let a = byte_after(s, Some(0), b'i');
     let b = byte_after(s, a, b'f');
     let c = atom_after(s, b);
     byte_after(s, c, b' ')
@@ -220,18 +186,15 @@ fn if_head(s: &[u8]) -> Took
 
 // A diagram: a number, or an if form, with `depth` brackets open before it.
 #[cycle(read_diagram_read_if)]
-pub fn read_diagram(s: &[u8], depth: usize) -> Took
+pub fn read_diagram(s: &[u8], depth: usize) -> Option<usize>
     ensures { (f : ℕ) → length s.now < f → result ≡ diagram_form f depth s.now }
 {
     if words::byte_at(s, 0) == b'(' {
         if depth <= 62 {
-            let Took::Bytes(n) = read_if(&s[1..], depth) else {
-                return Took::Refused;
-            };
-            let k = 1 + n;
-            Took::Bytes(k)
+            let n = read_if(&s[1..], depth)?;
+            Some(1 + n)
         } else {
-            Took::Refused
+            None
         }
     } else {
         words::read_number(s)
@@ -240,24 +203,14 @@ pub fn read_diagram(s: &[u8], depth: usize) -> Took
 
 // if ATOM DIAGRAM DIAGRAM ), where the bracket before it is counted in `depth` + 1.
 #[cycle(read_diagram_read_if)]
-fn read_if(s: &[u8], depth: usize) -> Took
+fn read_if(s: &[u8], depth: usize) -> Option<usize>
     requires { depth ≤ 62 }
     ensures { (f : ℕ) → length s.now < f → result ≡ if_form (diagram_form f (depth + 1)) s.now }
 {
     let deeper = depth + 1;
-    let Took::Bytes(i) = if_head(s) else {
-        return Took::Refused;
-    };
-    let Took::Bytes(n) = read_diagram(&s[i..], deeper) else {
-        return Took::Refused;
-    };
-    let m = i + n;
-    let Took::Bytes(j) = byte_after(s, Took::Bytes(m), b' ') else {
-        return Took::Refused;
-    };
-    let Took::Bytes(l) = read_diagram(&s[j..], deeper) else {
-        return Took::Refused;
-    };
-    let k = j + l;
-    byte_after(s, Took::Bytes(k), b')')
+    let i = if_head(s)?;
+    let n = read_diagram(&s[i..], deeper)?;
+    let j = byte_after(s, Some(i + n), b' ')?;
+    let l = read_diagram(&s[j..], deeper)?;
+    byte_after(s, Some(j + l), b')')
 }

@@ -37,13 +37,12 @@ use Rattle.rename.specs.Freeing.{freed}
 use Rattle.rename.specs.FreeingLaws.{freed-rows}
 use Rattle.rename.specs.VariableLaws.{occurs-term}
 use Rattle.rename.specs.RenamedWords.{freed-words}
-use Rattle.regression.specs.declared.Freed.{Freed}
-use Rattle.regression.specs.declared.Freed.TheVariants.{Done, Refused}
 use Rattle.regression.specs.RegressCall.{any_occurs, freed_outcome, written_as, free_outcome, free_answer, free_result, free_own}
 use Rattle.regression.proofs.RegressCallLaws.{any-quiet}
 use Rattle.regression.proofs.FreeCallLaws.{free_own_lem, free-listing, free-buffer, free-range, free-refused, freed-refused}
 use Rattle.freeing.specs.FreeTasks.{any_set, FreeTask, FreedWith}
 use Rattle.freeing.specs.MarkLaws.{used-any}
+use Rattle.std.specs.Prelude.{Err, Ok, Result}
 
 -- `write_freed`
 length-relabelled : (g : ℕ → ℕ) (ws : List ℕ) → length (relabelled g ws) ≡ length ws
@@ -78,7 +77,7 @@ module _ {ar words : List ℕ} {count : ℕ} {out : List ℕ} (task : FreeTask a
     unbound : any_set ms (first_parameter + count) (parameter_count - count) ≡ any_occurs ar (diagram_of words) (first_parameter + count) (parameter_count - count)
     unbound = used-any ar (diagram_of words) ms u (first_parameter + count) (parameter_count - count) (omega arith)
 
-    pub own-unbound : b ≡ true → FreedWith (free_own ar words count) (Refused Unbound) out out
+    pub own-unbound : b ≡ true → FreedWith (free_own ar words count) (Err Unbound) out out
     unfolding free_own
     own-unbound e = let q = sym unbound ∙ sym p ∙ e in record { answer = rw q; result = rw q }
 
@@ -86,7 +85,7 @@ module _ {ar words : List ℕ} {count : ℕ} {out : List ℕ} (task : FreeTask a
       past : any_set ms (first_minimum - count) count ≡ any_occurs ar (diagram_of words) (first_minimum - count) count
       past = used-any ar (diagram_of words) ms u (first_minimum - count) count (omega (arith, task.few))
 
-      pub own-variables : c ≡ true → FreedWith (free_own ar words count) (Refused Variables) out out
+      pub own-variables : c ≡ true → FreedWith (free_own ar words count) (Err Variables) out out
       unfolding free_own freed_outcome
       own-variables h = let q = sym unbound ∙ sym p ∙ e in let k = sym past ∙ sym r ∙ h in record { answer = rw (q, k); result = rw (q, k) }
 
@@ -123,12 +122,12 @@ module _ {ar words : List ℕ} {count : ℕ} {out : List ℕ} (task : FreeTask a
               clash o (any-quiet ar (diagram_of words) (first_minimum - count) count (sym past ∙ sym r ∙ h) t (omega arith) (omega (arith, task.few)))
 
       pub own-done : c ≡ false → {out' : List ℕ} → out' ≡ written_as (ok (freed ar count (diagram_of words))) out
-          → FreedWith (free_own ar words count) (Done (length words / 3)) out out'
+          → FreedWith (free_own ar words count) (Ok (length words / 3)) out out'
       unfolding free_own freed_outcome freed
       own-done h {out'} w =
           let q = sym unbound ∙ sym p ∙ e in
           let k = sym past ∙ sym r ∙ h in
-          record { answer = rw (q, k) (ap Done count-is); result = rw (q, k) w }
+          record { answer = rw (q, k) (ap Ok count-is); result = rw (q, k) w }
         where
           good : Good ar (diagram_of words)
           good = is-listing-good ar words task.listing
@@ -140,25 +139,25 @@ module _ {ar words : List ℕ} {count : ℕ} {out : List ℕ} (task : FreeTask a
 
 -- `free`
 module _ (ar words : List ℕ) (count : ℕ) (out : List ℕ) (w : ℕ) where
-  abbrev Says : Freed → List ℕ → Type 0
+  abbrev Says : Result ℕ Refusal → List ℕ → Type 0
   Says r out' = (r ≡ free_answer ar words count (length out) w) × (out' ≡ free_result ar words count w out)
 
-  says : {why : Refusal} → free_outcome ar words count (length out) w ≡ refused why → Says (Refused why) out
+  says : {why : Refusal} → free_outcome ar words count (length out) w ≡ refused why → Says (Err why) out
   says {why} e = (sym (free-refused ar words count (length out) w why e), sym (freed-refused ar words count w out why e))
 
   module _ {b : Bool} (p : b ≡ is_listing ar words) where
-    pub free-none : b ≡ false → Says (Refused Listing) out
+    pub free-none : b ≡ false → Says (Err Listing) out
     free-none e = says (free-listing ar words count (length out) w (sym p ∙ e))
 
     module _ (e : b ≡ true) where
-      pub free-short : length out < result_words → Says (Refused Buffer) out
+      pub free-short : length out < result_words → Says (Err Buffer) out
       free-short h = says (free-buffer ar words count (length out) w (sym p ∙ e) (or-one _ _ (lt-ltb (length out) result_words h)))
 
-      pub free-narrow : w < space_words → Says (Refused Buffer) out
+      pub free-narrow : w < space_words → Says (Err Buffer) out
       free-narrow h = says (free-buffer ar words count (length out) w (sym p ∙ e) (or-other (ltb (length out) result_words) _ (lt-ltb w space_words h)))
 
       module _ (h : result_words ≤ length out) (k : space_words ≤ w) where
-        pub free-many : parameter_count < count → Says (Refused Range) out
+        pub free-many : parameter_count < count → Says (Err Range) out
         free-many l = says (free-range ar words count (length out) w (sym p ∙ e) h k l)
 
         pub free-task : count ≤ parameter_count → FreeTask ar words count out
@@ -166,6 +165,6 @@ module _ (ar words : List ℕ) (count : ℕ) (out : List ℕ) (w : ℕ) where
             let v = listing-is-valid ar words (sym p ∙ e) in
             record { listing = sym p ∙ e; few = l; room = omega (arith, v.whole, v.few) }
 
-        pub free-done : count ≤ parameter_count → {r : Freed} {out' : List ℕ} → FreedWith (free_own ar words count) r out out' → Says r out'
+        pub free-done : count ≤ parameter_count → {r : Result ℕ Refusal} {out' : List ℕ} → FreedWith (free_own ar words count) r out out' → Says r out'
         unfolding free_answer free_result
         free-done l g = let z = free_own_lem ar words count (length out) w (sym p ∙ e) h k l in (rw z g.answer, rw z g.result)

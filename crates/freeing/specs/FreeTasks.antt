@@ -4,8 +4,9 @@ use Rattle.refusal.specs.Outcome.{Outcome}
 use Rattle.label.specs.Limits.{parameter_count}
 use Rattle.diagram.specs.Diagram.{Diagram}
 use Rattle.diagram.specs.Words.{is_listing}
-use Rattle.regression.specs.declared.Freed.{Freed}
 use Rattle.regression.specs.RegressCall.{written_as, freed_as}
+use Rattle.refusal.specs.declared.Refusal.{Refusal}
+use Rattle.std.specs.Prelude.{Result}
 
 -- one of the n marks from t on is set
 unfoldable pub any_set : List ℕ → ℕ → ℕ → Bool
@@ -19,6 +20,6 @@ pub record FreeTask (ar words : List ℕ) (count : ℕ) (out : List ℕ) : Type 
   pub room : length words ≤ length out
 
 -- the answer o, and the result buffer that was `before` and is `after`
-pub record FreedWith (o : Outcome Diagram) (r : Freed) (before after : List ℕ) : Type 0 where
+pub record FreedWith (o : Outcome Diagram) (r : Result ℕ Refusal) (before after : List ℕ) : Type 0 where
   pub answer : r ≡ freed_as o
   pub result : after ≡ written_as o before

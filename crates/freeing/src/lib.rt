@@ -11,21 +11,13 @@ ghost use Rattle.freeing.specs.FreeTasks.{any_set, FreeTask, FreedWith};
 
 use label::Term;
 use refusal::Refusal;
-use regression::Freed;
 
 // Whether one of the n marks from `first` on is set.
 pub fn any_set(marks: &[u64], first: usize, n: usize) -> bool
     requires { first + n ≤ length marks.now }
     ensures { result ≡ any_set marks.now first n }
 {
-    let mut k = 0;
-    while k < n {
-        if marks[first + k] != 0 {
-            return true;
-        }
-        k += 1;
-    }
-    false
+    marks[first..first + n].iter().any(|m| *m != 0)
 }
 
 // Writes a listing with its parameters freed.
@@ -40,7 +32,12 @@ fn write_freed(arities: &[u64], words: &[u64], count: u64, out: &mut [u64])
 }
 
 // Frees a listing: no parameter past the count (6), no variable that would pass the last (8); minimum variables stay.
-pub fn free_checked(arities: &[u64], words: &[u64], count: u64, out: &mut [u64]) -> Freed
+pub fn free_checked(
+    arities: &[u64],
+    words: &[u64],
+    count: u64,
+    out: &mut [u64],
+) -> Result<usize, Refusal>
     requires { FreeTask arities.now words.now count out.old }
     ensures { FreedWith (free_own arities.now words.now count) result out.old out.new }
 {
@@ -49,31 +46,37 @@ pub fn free_checked(arities: &[u64], words: &[u64], count: u64, out: &mut [u64])
     let n = count as usize;
     let parameters = (Term::PARAMETERS as usize) - n;
     if any_set(&marks, (Term::FIRST_PARAMETER as usize) + n, parameters) {
-        return Freed::Refused(Refusal::Unbound);
+        return Err(Refusal::Unbound);
     }
     if any_set(&marks, (Term::FIRST_MINIMUM as usize) - n, n) {
-        return Freed::Refused(Refusal::Variables);
+        return Err(Refusal::Variables);
     }
     write_freed(arities, words, count, out);
-    Freed::Done(words.len() / 3)
+    Ok(words.len() / 3)
 }
 
 // Frees the parameters of an action that has `count` of them.
-pub fn free(arities: &[u64], words: &[u64], count: u64, out: &mut [u64], work: &[u64]) -> Freed
+pub fn free(
+    arities: &[u64],
+    words: &[u64],
+    count: u64,
+    out: &mut [u64],
+    work: &[u64],
+) -> Result<usize, Refusal>
     ensures value { result ≡ free_answer arities.now words.now count (length out.old) (length work.now) }
     ensures out_after { out.new ≡ free_result arities.now words.now count (length work.now) out.old }
 {
     if !listing::check(arities, words) {
-        return Freed::Refused(Refusal::Listing);
+        return Err(Refusal::Listing);
     }
     if out.len() < diagram::RESULT_WORDS {
-        return Freed::Refused(Refusal::Buffer);
+        return Err(Refusal::Buffer);
     }
     if work.len() < diagram::SPACE_WORDS {
-        return Freed::Refused(Refusal::Buffer);
+        return Err(Refusal::Buffer);
     }
     if count > Term::PARAMETERS {
-        return Freed::Refused(Refusal::Range);
+        return Err(Refusal::Range);
     }
     free_checked(arities, words, count, out)
 }

@@ -1,17 +1,18 @@
 -- The ways through the functions on atoms and labels, in the words of their tests and callees.
 use mathlib.Core.Path.{◌≡◌, refl, sym, ap, subst, subst₂, ◌∙◌}
 use Rattle.basics.specs.Members.{clash}
-use mathlib.Core.Bool.{Bool, true, false, not, ◌&&◌, ◌||◌, cond}
+use mathlib.Core.Bool.{Bool, true, false, not, cond}
 use mathlib.Core.List.{List, [], ◌∷◌}
-use Prim.Native.Nat.{ℕ, zero, suc, ◌+◌, ◌-◌, ◌*◌, ◌/◌, ◌%◌, ◌^◌, ◌≤◌, ◌<◌, min}
+use Prim.Native.Nat.{ℕ, ◌+◌, ◌-◌, ◌*◌, ◌/◌, ◌%◌, ◌^◌, ◌≤◌, ◌<◌, min}
 use native.Mathlib.Omega.{arith}
 use lib.ListN.{length, get_or}
 use lib.Dec.{eqb, ltb, leb}
-use borrow.Author.Tests.{lt-ltb, le-ltb, le-leb, lt-leb, eqb-true, eq-eqb, ne_eqb, not-true, not-false}
+use Rattle.std.specs.List.{list_all}
+use borrow.Author.Tests.{lt-ltb, le-ltb, eqb-true, eq-eqb, ne_eqb, not-true}
 use Rattle.basics.specs.Tests.{and_left, Flag, is_true, is_false, flag, Cmp, below, equal, above, cmp}
-use Rattle.label.specs.Limits.{constant_count, first_parameter, parameter_count, term_bits, term_base, term_end}
+use Rattle.label.specs.Limits.{term_bits, term_base, term_end}
 use Rattle.label.specs.Limits.{predicate_count, equality_arity, most_places}
-use Rattle.label.specs.Terms.{is_constant, is_parameter, is_variable, is_minimum, is_term}
+use Rattle.label.specs.Terms.{is_term}
 use Rattle.label.specs.Labels.{are_arities, all_at_most, places_of, place_in, atom_from, packed, predicate_of, place_at, unpacked, place_fits, in_order, is_atom, is_label}
 use Rattle.label.specs.Inner.{is_label_under, map_of}
 use Rattle.label.specs.Labels.{equal_atom, equates, test_of}
@@ -24,16 +25,6 @@ use Rattle.label.specs.declared.Atom.{Atom}
 use Rattle.label.specs.declared.Label.{Label}
 use Rattle.label.specs.declared.Test.{Test}
 use Rattle.label.specs.declared.Test.TheVariants.{Always, Is}
-
--- is_term
-pub term-low : {t : ℕ} → t < first_parameter + parameter_count → true ≡ is_term t
-unfolding is_term is_constant is_parameter
-term-low {t} h = go (cmp t constant_count)
-  where
-    go : Cmp t constant_count → true ≡ (is_constant t || (is_parameter t || (is_variable t || is_minimum t)))
-    go (below q) = rw (lt-ltb t constant_count q)
-    go (equal q) = rw (le-ltb t constant_count (omega arith), le-leb first_parameter t (omega arith), lt-ltb t (first_parameter + parameter_count) h)
-    go (above q) = rw (le-ltb t constant_count (omega arith), le-leb first_parameter t (omega arith), lt-ltb t (first_parameter + parameter_count) h)
 
 -- placed
 pub placed-used : (map : List ℕ) (n k t : ℕ) → k < n → get_or map t 0 ≡ placed (map_of map) n k t
@@ -135,21 +126,6 @@ pub renamed-is : {ar map : List ℕ} {l : ℕ} {a : Atom} {x : ℕ} → Replaced
 unfolding renamed
 renamed-is r e = e ∙ ap packed r.atom
 
--- fits
--- what `if !f(..)` tells of a call that answers x
-passed : {b x : Bool} → b ≡ x → not b ≡ false → x ≡ true
-passed {b} {x} e f = sym e ∙ not-false b f
-
-failed : {b x : Bool} → b ≡ x → not b ≡ true → x ≡ false
-failed {b} {x} e f = sym e ∙ not-true b f
-
--- fewer
-pub fewer-few : {n : ℕ} → n < most_places → n ≡ min n most_places
-fewer-few h = omega arith
-
-pub fewer-all : {n : ℕ} → most_places ≤ n → most_places ≡ min n most_places
-fewer-all h = omega arith
-
 -- ends_at: what is shifted down and up again fits a word
 shifted_fits : (l n : ℕ) → n ≤ most_places → l < 2 ^ 64
     → l / 2 ^ ((most_places - n) * term_bits) * 2 ^ ((most_places - n) * term_bits) % 2 ^ 64 ≡ l / 2 ^ ((most_places - n) * term_bits) * 2 ^ ((most_places - n) * term_bits)
@@ -166,14 +142,6 @@ ends_is l n w h = ap (λ (x : ℕ). eqb x l) (shifted_fits l n h w)
 abbrev pub TermsTo : ℕ → ℕ → Type 0
 TermsTo l k = (j : ℕ) → j < k → is_term (place_at l j) ≡ true
 
-pub terms-more : (l k : ℕ) {t : ℕ} {b : Bool} → TermsTo l k → t ≡ place_at l k → b ≡ is_term t → not b ≡ false → TermsTo l (k + 1)
-terms-more l k {t} h f g m j i = go (cmp j k)
-  where
-    go : Cmp j k → is_term (place_at l j) ≡ true
-    go (below q) = h j q
-    go (equal q) = rw (q, ← f) (passed g m)
-    go (above q) = absurd (omega arith)
-
 module _ (ar : List ℕ) (l : ℕ) {p : ℕ} (e : p ≡ predicate_of l) where
   pub fits-not-predicate : predicate_count ≤ p → false ≡ is_label ar l
   unfolding is_label is_atom unpacked
@@ -186,28 +154,28 @@ module _ (ar : List ℕ) (l : ℕ) {p : ℕ} (e : p ≡ predicate_of l) where
 
     -- a place that holds no term
     pub fits_not : (k : ℕ) {t : ℕ} {b : Bool} → k < used → t ≡ place_at l k → b ≡ is_term t → not b ≡ true → false ≡ is_label ar l
-    fits_not k {t} h f g m = go (flag (is_label ar l))
+    fits_not k {t} {b} h f g m = go (flag (is_label ar l))
       where
         go : Flag (is_label ar l) → false ≡ is_label ar l
         go (is_true q) =
             let z : is_term t ≡ true = rw f (used-term (get_or ar p 0) k _ (omega arith) (placed-fits q k (omega arith))) in
-            clash z (failed g m)
+            clash z (sym g ∙ not-true b m)
         go (is_false q) = sym q
 
     -- an unused place that holds something
-    pub fits-not-ended : {b : Bool} → b ≡ ends_at l used → not b ≡ true → false ≡ is_label ar l
-    fits-not-ended g m = go (flag (is_label ar l))
+    pub fits-not-ended : {b : Bool} → b ≡ ends_at l used → b ≡ false → b ≡ is_label ar l
+    fits-not-ended {b} g m = go (flag (is_label ar l))
       where
-        go : Flag (is_label ar l) → false ≡ is_label ar l
+        go : Flag (is_label ar l) → b ≡ is_label ar l
         go (is_true q) =
             let z = zero-ends l used (omega arith) (λ k h i. unused-zero (get_or ar p 0) k _ (omega arith) (placed-fits q k h)) in
-            clash z (failed g m)
-        go (is_false q) = sym q
+            clash (g ∙ z) m
+        go (is_false q) = m ∙ sym q
 
-    module _ (h : p < predicate_count) {k : ℕ} (all : TermsTo l k) (m : used ≤ k) {b : Bool} (g : b ≡ ends_at l used) (o : not b ≡ false) where
+    module _ (h : p < predicate_count) {k : ℕ} (all : TermsTo l k) (m : used ≤ k) {b : Bool} (g : b ≡ ends_at l used) (o : b ≡ true) where
       unused : (j : ℕ) → j < most_places → get_or ar p 0 ≤ j → place_fits (get_or ar p 0) j (place_at l j) ≡ true
       unfolding place_fits
-      unused j i q = rw (le-ltb j (get_or ar p 0) q) (eq-eqb (place_at l j) 0 (ends-zero l used (omega arith) (passed g o) j i (omega arith)))
+      unused j i q = rw (le-ltb j (get_or ar p 0) q) (eq-eqb (place_at l j) 0 (ends-zero l used (omega arith) (sym g ∙ o) j i (omega arith)))
 
       each-place-fits : (j : ℕ) → j < most_places → Cmp j (get_or ar p 0) → place_fits (get_or ar p 0) j (place_at l j) ≡ true
       unfolding place_fits
@@ -228,64 +196,40 @@ module _ (ar : List ℕ) (l : ℕ) {p : ℕ} (e : p ≡ predicate_of l) where
           let z = fits-list (get_or ar (predicate_of l) 0) 0 (places_of (unpacked l)) each_fits in
           rw (lt-ltb (predicate_of l) predicate_count (subst (λ (q : ℕ). q < predicate_count) e h), z)
 
-      pub fits-other : (p ≡ 0 → ⊥) → true ≡ is_label ar l
+      pub fits-other : (p ≡ 0 → ⊥) → not (eqb p 0) ≡ is_label ar l
       unfolding in_order unpacked
-      fits-other n = let z : true ≡ in_order (unpacked l) = rw (ne_eqb (predicate_of l) 0 (λ q. n (e ∙ q))) in z ∙ fits_last
+      fits-other n = rw (ne_eqb p 0 n) (let z : true ≡ in_order (unpacked l) = rw (ne_eqb (predicate_of l) 0 (λ q. n (e ∙ q))) in z ∙ fits_last)
 
       pub fits-equality : p ≡ 0 → {t u : ℕ} → t ≡ place_at l 0 → u ≡ place_at l 1 → ltb t u ≡ is_label ar l
       unfolding in_order unpacked
       fits-equality q {t} {u} f i = let z : ltb t u ≡ in_order (unpacked l) = rw (eq-eqb (predicate_of l) 0 (sym e ∙ q), f, i) in z ∙ fits_last
 
 -- is_under
-pub under-not : (ar : List ℕ) (l : ℕ) {b : Bool} → b ≡ are_arities ar → not b ≡ true → false ≡ is_label_under ar l
+pub under-not : (ar : List ℕ) (l : ℕ) {b : Bool} → b ≡ are_arities ar → b ≡ false → b ≡ is_label_under ar l
 unfolding is_label_under
-under-not ar l e f = rw (failed e f)
+under-not ar l e f = rw (sym e ∙ f) f
 
-pub under-label : (ar : List ℕ) (l : ℕ) {b c : Bool} → b ≡ are_arities ar → not b ≡ false → c ≡ is_label ar l → c ≡ is_label_under ar l
+pub under-label : (ar : List ℕ) (l : ℕ) {b c : Bool} → b ≡ are_arities ar → b ≡ true → c ≡ is_label ar l → c ≡ is_label_under ar l
 unfolding is_label_under
-under-label ar l e f g = rw (passed e f) g
+under-label ar l e f g = rw (sym e ∙ f) g
 
-pub under_all : (ar : List ℕ) {b : Bool} → b ≡ are_arities ar → not b ≡ false → predicate_count ≤ length ar
+pub under_all : (ar : List ℕ) {b : Bool} → b ≡ are_arities ar → b ≡ true → predicate_count ≤ length ar
 unfolding are_arities
-under_all ar e f =
-    let z : are_arities ar ≡ true = passed e f in
-    omega (arith, eqb-true (length ar) predicate_count (and_left _ _ z))
+under_all ar e f = omega (arith, eqb-true (length ar) predicate_count (and_left _ _ (sym e ∙ f)))
 
 -- are_arities
+all_at_most-is : (m : ℕ) (xs : List ℕ) → list_all (λ x. leb x m) xs ≡ all_at_most m xs
+all_at_most-is m [] = refl
+all_at_most-is m (x ∷ xs) = rw (all_at_most-is m xs)
+
 pub arities-not-length : (ar : List ℕ) → (length ar ≡ predicate_count → ⊥) → false ≡ are_arities ar
 unfolding are_arities
 arities-not-length ar n = rw (ne_eqb (length ar) predicate_count n)
 
-pub arities-not-equality : (ar : List ℕ) → length ar ≡ predicate_count → (get_or ar 0 0 ≡ equality_arity → ⊥) → false ≡ are_arities ar
+pub arities-not-equality : (ar : List ℕ) → length ar ≡ predicate_count → (get_or ar 0 0 ≡ equality_arity → ⊥) → eqb (get_or ar 0 0) equality_arity ≡ are_arities ar
 unfolding are_arities
 arities-not-equality ar e n = rw (eq-eqb (length ar) predicate_count e, ne_eqb (get_or ar 0 0) equality_arity n)
 
--- all of the list, by index
-all-is : (m : ℕ) (xs : List ℕ) → ((i : ℕ) → i < length xs → get_or xs i 0 ≤ m) → all_at_most m xs ≡ true
-all-is m [] h = refl
-all-is m (x ∷ xs) h = rw (le-leb x m (h 0 (omega arith)), all-is m xs (λ i l. h (suc i) (omega arith)))
-
-all-not : (m : ℕ) (xs : List ℕ) (i : ℕ) → i < length xs → m < get_or xs i 0 → all_at_most m xs ≡ false
-all-not m [] i h l = absurd (omega arith)
-all-not m (x ∷ xs) zero h l = rw (lt-leb x m l)
-all-not m (x ∷ xs) (suc i) h l = go (leb x m) (all-not m xs i (omega arith) l)
-  where
-    go : (b : Bool) → all_at_most m xs ≡ false → (b && all_at_most m xs) ≡ false
-    go true e = e
-    go false e = refl
-
-pub arities-not-all : (ar : List ℕ) {i : ℕ} → length ar ≡ predicate_count → get_or ar 0 0 ≡ equality_arity → i < predicate_count → most_places < get_or ar i 0 → false ≡ are_arities ar
+pub arities-are : (ar : List ℕ) {r : Bool} → length ar ≡ predicate_count → get_or ar 0 0 ≡ equality_arity → r ≡ list_all (λ x. leb x most_places) ar → r ≡ are_arities ar
 unfolding are_arities
-arities-not-all ar {i} e f h l = rw (eq-eqb (length ar) predicate_count e, eq-eqb (get_or ar 0 0) equality_arity f, all-not most_places ar i (omega arith) l)
-
-pub arities-are : (ar : List ℕ) {i : ℕ} → length ar ≡ predicate_count → get_or ar 0 0 ≡ equality_arity → ((k : ℕ) → k < i → get_or ar k 0 ≤ most_places) → predicate_count ≤ i → true ≡ are_arities ar
-unfolding are_arities
-arities-are ar {i} e f h l = rw (eq-eqb (length ar) predicate_count e, eq-eqb (get_or ar 0 0) equality_arity f, all-is most_places ar (λ k q. h k (omega arith)))
-
-pub arities-more : (ar : List ℕ) {i : ℕ} → ((k : ℕ) → k < i → get_or ar k 0 ≤ most_places) → get_or ar i 0 ≤ most_places → (k : ℕ) → k < i + 1 → get_or ar k 0 ≤ most_places
-arities-more ar {i} all here k h = go (cmp k i)
-  where
-    go : Cmp k i → get_or ar k 0 ≤ most_places
-    go (below q) = all k q
-    go (equal q) = rw q here
-    go (above q) = absurd (omega arith)
+arities-are ar e f h = rw (eq-eqb (length ar) predicate_count e, eq-eqb (get_or ar 0 0) equality_arity f) (h ∙ all_at_most-is most_places ar)

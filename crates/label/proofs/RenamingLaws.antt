@@ -12,7 +12,7 @@ use Rattle.basics.specs.Tests.{Flag, is_true, is_false, flag, Cmp, below, equal,
 use Rattle.basics.specs.Members.{mem, clash}
 use Rattle.label.specs.Limits.{first_parameter, parameter_count, first_variable, first_minimum, minimum_count, term_end, equality_arity, most_places}
 use Rattle.label.specs.Terms.{is_term}
-use Rattle.label.specs.Labels.{are_arities, places_of, place_in, packed, predicate_of, unpacked, place_fits, in_order, is_atom, is_label, terms_of, equal_atom, equates, test_of, label_of}
+use Rattle.label.specs.Labels.{are_arities, places_of, place_in, predicate_of, unpacked, place_fits, in_order, is_atom, is_label, terms_of, equal_atom, equates, test_of, label_of}
 use Rattle.label.specs.Inner.{Increasing, Numbered, Freed}
 use Rattle.label.specs.Renamings.{placed, mapped, moved, renamed, rank, numbering, freeing, EachTerm, EachIn}
 use Rattle.label.proofs.LabelLaws.{term-high, each-place, atom-same, Fitting, PlacesFit, atom-fits, fits-atom, atom-places, label-fits, label-packed, unpacked-packed, unused-zero, used-term}

@@ -156,10 +156,11 @@ impl Atom {
         requires { Packable self }
         ensures { result ≡ test_of self }
     {
-        if self.predicate != Label::EQUALITY {
-            return Test::Is(self.pack());
+        if self.predicate == Label::EQUALITY {
+            equate(self.first, self.second)
+        } else {
+            Test::Is(self.pack())
         }
-        equate(self.first, self.second)
     }
 
     // The atom of arity n with all of its terms replaced together, term t by map[t].
@@ -240,31 +241,20 @@ impl Label {
         if p >= Label::PREDICATES {
             return false;
         }
-        let used = fewer(arities[p]);
-        let mut k = 0;
-        while k < used {
+        let used = arities[p].min(Label::PLACES);
+        for k in 0..used {
             if !is_term(self.place(k)) {
                 return false;
             }
-            k += 1;
         }
-        if !self.ends_at(used) {
-            return false;
-        }
-        if p != 0 {
-            return true;
-        }
-        self.place(0) < self.place(1)
+        self.ends_at(used) && (p != 0 || self.place(0) < self.place(1))
     }
 
     // Whether the list is an arity list and the number a label under it.
     pub fn is_under(self, arities: &[u64]) -> bool
         ensures { result ≡ is_label_under arities.now self.packed }
     {
-        if !are_arities(arities) {
-            return false;
-        }
-        self.fits(arities)
+        are_arities(arities) && self.fits(arities)
     }
 
     // The label's atom with all of its terms replaced together, term t by map[t].
@@ -326,35 +316,20 @@ pub fn equate(t: u64, u: u64) -> Test
     ensures { result ≡ equates t u }
 {
     if t == u {
-        return Test::Always;
+        Test::Always
+    } else if t < u {
+        Test::Is(equal(t, u).pack())
+    } else {
+        Test::Is(equal(u, t).pack())
     }
-    if t < u {
-        return Test::Is(equal(t, u).pack());
-    }
-    Test::Is(equal(u, t).pack())
-}
-
-// The used places of an arity: no more than a label has.
-fn fewer(n: u64) -> u64
-    ensures { result ≡ min n most_places }
-{
-    if n < Label::PLACES {
-        return n;
-    }
-    Label::PLACES
 }
 
 // Whether t is the number of a term.
 pub fn is_term(t: u64) -> bool
     ensures { result ≡ is_term t }
 {
-    if t < Term::FIRST_PARAMETER + Term::PARAMETERS {
-        return true;
-    }
-    if t < Term::FIRST_VARIABLE {
-        return false;
-    }
-    t < Term::FIRST_MINIMUM + Term::MINIMUMS
+    t < Term::FIRST_PARAMETER + Term::PARAMETERS
+        || t >= Term::FIRST_VARIABLE && t < Term::FIRST_MINIMUM + Term::MINIMUMS
 }
 
 // Place k of a predicate of arity n with its term t replaced.
@@ -362,10 +337,7 @@ fn placed(map: &[u64], n: u64, k: u64, t: u64) -> u64
     requires { t < length map.now }
     ensures { result ≡ placed (map_of map.now) n k t }
 {
-    if k < n {
-        return map[t as usize];
-    }
-    0
+    if k < n { map[t as usize] } else { 0 }
 }
 
 // Whether the words are an arity list: 32 arities, the first 2, each at most 6.
@@ -375,15 +347,5 @@ pub fn are_arities(arities: &[u64]) -> bool
     if arities.len() != Label::PREDICATES {
         return false;
     }
-    if arities[0] != Label::EQUALITY_ARITY {
-        return false;
-    }
-    let mut i = 0usize;
-    while i < Label::PREDICATES {
-        if arities[i] > Label::PLACES {
-            return false;
-        }
-        i += 1;
-    }
-    true
+    arities[0] == Label::EQUALITY_ARITY && arities.iter().all(|a| *a <= Label::PLACES)
 }

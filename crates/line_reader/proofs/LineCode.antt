@@ -8,8 +8,6 @@ use Rattle.words.specs.Inner.{name_form}
 use Rattle.words.specs.Keys.{key_of}
 use Rattle.words.specs.ByteLaws.{part-tail}
 use Rattle.words.specs.declared.Key.{Key}
-use Rattle.words.specs.declared.Took.{Took}
-use Rattle.words.specs.declared.Took.TheVariants.{Bytes, Refused}
 use Rattle.forms.specs.Form.{◌▹◌}
 use Rattle.text.specs.declared.Kind.{Kind}
 use Rattle.text.specs.declared.Kind.TheVariants.{Bad}
@@ -17,20 +15,21 @@ use Rattle.line_reader.specs.declared.Keyword.{Keyword}
 use Rattle.text.specs.Line.{most_line_bytes}
 use Rattle.text.specs.LineForm.{kind_of, shape_form, words_form, form_kind, line_kind}
 use Rattle.line_reader.specs.Rows.{row_of}
+use Rattle.std.specs.Prelude.{None, Option, Some}
 
 -- the answer t is u: what is read behind t is what is read behind u
-pub behind : {t u r : Took} (f : ℕ → Took) → t ≡ u → r ≡ t ▹ f → r ≡ u ▹ f
-behind f e h = h ∙ ap (λ (x : Took). x ▹ f) e
+pub behind : {t u r : Option ℕ} (f : ℕ → Option ℕ) → t ≡ u → r ≡ t ▹ f → r ≡ u ▹ f
+behind f e h = h ∙ ap (λ (x : Option ℕ). x ▹ f) e
 
-pub behind-two : {t u r : Took} (f g : ℕ → Took) → t ≡ u → r ≡ t ▹ f ▹ g → r ≡ u ▹ f ▹ g
-behind-two f g e h = h ∙ ap (λ (x : Took). x ▹ f ▹ g) e
+pub behind-two : {t u r : Option ℕ} (f g : ℕ → Option ℕ) → t ≡ u → r ≡ t ▹ f ▹ g → r ≡ u ▹ f ▹ g
+behind-two f g e h = h ∙ ap (λ (x : Option ℕ). x ▹ f ▹ g) e
 
-module _ (s : List ℕ) {t : Took} (p : t ≡ name_form s) where
-  pub form-none : t ≡ Refused → Bad ≡ form_kind s
+module _ (s : List ℕ) {t : Option ℕ} (p : t ≡ name_form s) where
+  pub form-none : t ≡ None → Bad ≡ form_kind s
   unfolding form_kind
   form-none e = rw (← p, e)
 
-  module _ {n : ℕ} {k : Key} {row : Keyword} {r : Took} (q : t ≡ Bytes n) (u : k ≡ key_of (take n s)) (v : row ≡ row_of (kind_of k))
+  module _ {n : ℕ} {k : Key} {row : Keyword} {r : Option ℕ} (q : t ≡ Some n) (u : k ≡ key_of (take n s)) (v : row ≡ row_of (kind_of k))
       (w : r ≡ shape_form row.shape (take (length s - n) (drop n s))) where
     kind : row.kind ≡ kind_of (key_of (take n s))
     unfolding row_of
@@ -40,15 +39,15 @@ module _ (s : List ℕ) {t : Took} (p : t ≡ name_form s) where
     unfolding row_of words_form
     words = rw (← u, ← part-tail n s) (ap (λ (x : Keyword). shape_form x.shape (take (length s - n) (drop n s))) (sym v) ∙ sym w)
 
-    pub form-refused : r ≡ Refused → Bad ≡ form_kind s
+    pub form-refused : r ≡ None → Bad ≡ form_kind s
     unfolding form_kind
     form-refused e = rw (← p, q, words, e)
 
-    pub form-whole : {m : ℕ} → r ≡ Bytes m → m ≡ length s - n → row.kind ≡ form_kind s
+    pub form-whole : {m : ℕ} → r ≡ Some m → m ≡ length s - n → row.kind ≡ form_kind s
     unfolding form_kind
     form-whole e l = kind ∙ rw (← p, q, words, e, eq-eqb _ _ l)
 
-    pub form-rest : {m : ℕ} → r ≡ Bytes m → (m ≡ length s - n → ⊥) → Bad ≡ form_kind s
+    pub form-rest : {m : ℕ} → r ≡ Some m → (m ≡ length s - n → ⊥) → Bad ≡ form_kind s
     unfolding form_kind
     form-rest e l = rw (← p, q, words, e, ne_eqb _ _ l)
 

@@ -9,7 +9,7 @@ ghost use Rattle.line_reader.specs.Rows.{row_of};
 
 use forms::Sort;
 use text::{Kind, Shape};
-use words::{Key, Took};
+use words::Key;
 
 // A key word by its key, the kind of the line that it begins, and the shape of what stands behind it.
 #[derive(Clone, Copy)]
@@ -187,29 +187,14 @@ const KEYWORDS: [Keyword; KINDS] = [
     },
 ];
 
-// Whether the two keys are one.
-fn is_key(k: Key, l: Key) -> bool
-    ensures { result ≡ is_key k l }
-{
-    if k.a != l.a {
-        return false;
-    }
-    k.b == l.b
-}
-
 // The row of the key word that has the key; where there is none, that of no line.
 fn find_keyword(key: Key) -> Keyword
     ensures { result ≡ row_of (kind_of key) }
 {
-    // Once: inside the loop the table would be made anew in each turn.
-    let rows = KEYWORDS;
-    let mut i = 0;
-    while i < KINDS {
-        let row = rows[i];
-        if is_key(key, row.key) {
-            return row;
+    for row in &KEYWORDS {
+        if key == row.key {
+            return *row;
         }
-        i += 1;
     }
     Keyword {
         key: Key { a: 0, b: 0 },
@@ -219,55 +204,45 @@ fn find_keyword(key: Key) -> Keyword
 }
 
 // A space and a diagram, one bracket open before it, at the place that t answered.
-fn diagram_after(s: &[u8], t: Took) -> Took
+fn diagram_after(s: &[u8], t: Option<usize>) -> Option<usize>
     ensures { result ≡ t ▹ byte s.now 32 ▹ form s.now (diagram_form (length s.now + 1) 1) }
 {
-    let Took::Bytes(i) = forms::byte_after(s, t, b' ') else {
-        return Took::Refused;
-    };
-    let Took::Bytes(n) = forms::read_diagram(words::rest(s, i), 1) else {
-        return Took::Refused;
-    };
-    let j = i + n;
-    Took::Bytes(j)
+    let i = forms::byte_after(s, t, b' ')?;
+    let n = forms::read_diagram(words::rest(s, i), 1)?;
+    Some(i + n)
 }
 
 // The byte b, then a name and words of a sort, up to the closing bracket, at the place that t answered.
-fn plain_after(s: &[u8], t: Took, b: u8, sort: Sort) -> Took
+fn plain_after(s: &[u8], t: Option<usize>, b: u8, sort: Sort) -> Option<usize>
     requires { 0 < b }
     ensures { result ≡ t ▹ byte s.now b ▹ form s.now (plain_form sort) }
 {
-    let Took::Bytes(i) = forms::byte_after(s, t, b) else {
-        return Took::Refused;
-    };
-    let Took::Bytes(n) = forms::read_plain(words::rest(s, i), sort) else {
-        return Took::Refused;
-    };
-    let j = i + n;
-    Took::Bytes(j)
+    let i = forms::byte_after(s, t, b)?;
+    let n = forms::read_plain(words::rest(s, i), sort)?;
+    Some(i + n)
 }
 
 // )
-fn read_end(s: &[u8]) -> Took
+fn read_end(s: &[u8]) -> Option<usize>
     ensures { result ≡ end_form s.now }
 {
-    forms::byte_after(s, Took::Bytes(0), b')')
+    forms::byte_after(s, Some(0), b')')
 }
 
 // WORD )
-fn read_one(s: &[u8], sort: Sort) -> Took
+fn read_one(s: &[u8], sort: Sort) -> Option<usize>
     ensures { result ≡ one_form sort s.now }
 {
-    let a = forms::byte_after(s, Took::Bytes(0), b' ');
+    let a = forms::byte_after(s, Some(0), b' ');
     let b = forms::item_after(s, a, sort);
     forms::byte_after(s, b, b')')
 }
 
 // WORD WORD )
-fn read_two(s: &[u8], first: Sort, second: Sort) -> Took
+fn read_two(s: &[u8], first: Sort, second: Sort) -> Option<usize>
     ensures { result ≡ two_form first second s.now }
 {
-    let a = forms::byte_after(s, Took::Bytes(0), b' ');
+    let a = forms::byte_after(s, Some(0), b' ');
     let b = forms::item_after(s, a, first);
     let c = forms::byte_after(s, b, b' ');
     let d = forms::item_after(s, c, second);
@@ -275,51 +250,51 @@ fn read_two(s: &[u8], first: Sort, second: Sort) -> Took
 }
 
 // NAME WORD .. )
-fn read_listed(s: &[u8], sort: Sort) -> Took
+fn read_listed(s: &[u8], sort: Sort) -> Option<usize>
     ensures { result ≡ listed_form sort s.now }
 {
-    plain_after(s, Took::Bytes(0), b' ', sort)
+    plain_after(s, Some(0), b' ', sort)
 }
 
 // NAME NAME WORD .. )
-fn read_paired(s: &[u8], sort: Sort) -> Took
+fn read_paired(s: &[u8], sort: Sort) -> Option<usize>
     ensures { result ≡ paired_form sort s.now }
 {
-    let a = forms::byte_after(s, Took::Bytes(0), b' ');
+    let a = forms::byte_after(s, Some(0), b' ');
     let b = forms::item_after(s, a, Sort::Name);
     plain_after(s, b, b' ', sort)
 }
 
 // DIAGRAM )
-fn read_drawn(s: &[u8]) -> Took
+fn read_drawn(s: &[u8]) -> Option<usize>
     ensures { result ≡ drawn_form s.now }
 {
-    let a = diagram_after(s, Took::Bytes(0));
+    let a = diagram_after(s, Some(0));
     forms::byte_after(s, a, b')')
 }
 
 // NAME DIAGRAM )
-fn read_named(s: &[u8]) -> Took
+fn read_named(s: &[u8]) -> Option<usize>
     ensures { result ≡ named_form s.now }
 {
-    let a = forms::byte_after(s, Took::Bytes(0), b' ');
+    let a = forms::byte_after(s, Some(0), b' ');
     let b = forms::item_after(s, a, Sort::Name);
     let c = diagram_after(s, b);
     forms::byte_after(s, c, b')')
 }
 
 // (NAME ?a ..) DIAGRAM )
-fn read_headed(s: &[u8]) -> Took
+fn read_headed(s: &[u8]) -> Option<usize>
     ensures { result ≡ headed_form s.now }
 {
-    let a = forms::byte_after(s, Took::Bytes(0), b' ');
+    let a = forms::byte_after(s, Some(0), b' ');
     let b = plain_after(s, a, b'(', Sort::Variable);
     let c = diagram_after(s, b);
     forms::byte_after(s, c, b')')
 }
 
 // What stands behind the key word, up to the line's closing bracket.
-fn read_shape(shape: Shape, s: &[u8]) -> Took
+fn read_shape(shape: Shape, s: &[u8]) -> Option<usize>
     ensures { result ≡ shape_form shape s.now }
 {
     match shape {
@@ -331,7 +306,7 @@ fn read_shape(shape: Shape, s: &[u8]) -> Took
         Shape::Drawn => read_drawn(s),
         Shape::Named => read_named(s),
         Shape::Headed => read_headed(s),
-        Shape::Never => Took::Refused,
+        Shape::Never => None,
     }
 }
 
@@ -339,17 +314,18 @@ fn read_shape(shape: Shape, s: &[u8]) -> Took
 fn read_form(s: &[u8]) -> Kind
     ensures { result ≡ form_kind s.now }
 {
-    let Took::Bytes(n) = words::read_name(s) else {
+    let Some(n) = words::read_name(s) else {
         return Kind::Bad;
     };
     let row = find_keyword(words::key_of(&s[..n]));
-    let left = s.len() - n;
-    let shape = row.shape;
-    let Took::Bytes(m) = read_shape(shape, &s[n..]) else {
+    let Some(m) = read_shape(row.shape, &s[n..]) else {
         return Kind::Bad;
     };
-    let kind = row.kind;
-    if m == left { kind } else { Kind::Bad }
+    if m == s.len() - n {
+        row.kind
+    } else {
+        Kind::Bad
+    }
 }
 
 // The kind of a line, its line feed left out; Bad where it is not of the grammar.

@@ -5,7 +5,6 @@ use Prim.Native.Nat.{ℕ, zero, suc, ◌+◌, ◌-◌, ◌<◌, ◌≤◌}
 use native.Mathlib.Omega.{arith}
 use lib.ListN.{length, get_or, set, replicate, length-set, length-replicate, get_or-replicate}
 use lib.Seq.{ext_get_or, get_or-set_same, get_or-set_other}
-use Rattle.basics.specs.Tests.{Cmp, below, equal, above, cmp}
 use Rattle.label.specs.Limits.{predicate_count, equality, equality_arity}
 use Rattle.diagram.specs.Diagram.{leaf}
 use Rattle.diagram.specs.Listing.{tree_at, diagram_of}
@@ -26,31 +25,6 @@ use Rattle.lines.specs.Lines.{Opening, Opened}
 
 -- ===== The arity list =====
 
--- equality has its arity, and the other predicates below p have 0
-pub record Undeclared (ar : List ℕ) (p : ℕ) : Type 0 where
-  pub size : length ar ≡ predicate_count
-  pub first : get_or ar equality 0 ≡ equality_arity
-  pub zeros : (i : ℕ) → 0 < i → i < p → get_or ar i 0 ≡ 0
-
-pub undeclared-start : (ar : List ℕ) → length ar ≡ predicate_count → Undeclared (set ar equality equality_arity) 1
-undeclared-start ar e = record {
-  size = length-set ar equality equality_arity ∙ e;
-  first = get_or-set_same ar equality equality_arity 0 (omega arith);
-  zeros = λ i h l. absurd (omega arith);
-}
-
-pub undeclared-on : {ar : List ℕ} {p : ℕ} → Undeclared ar p → 0 < p → p < predicate_count → Undeclared (set ar p 0) (p + 1)
-undeclared-on {ar} {p} u h l = record {
-  size = length-set ar p 0 ∙ u.size;
-  first = get_or-set_other ar p equality 0 0 (omega arith) ∙ u.first;
-  zeros = λ i k m. go i k m (cmp i p);
-}
-  where
-    go : (i : ℕ) → 0 < i → i < p + 1 → Cmp i p → get_or (set ar p 0) i 0 ≡ 0
-    go i k m (below q) = get_or-set_other ar p i 0 0 (omega arith) ∙ u.zeros i k q
-    go i k m (equal q) = rw q (get_or-set_same ar p 0 0 (let e = u.size in omega arith))
-    go i k m (above q) = absurd (omega arith)
-
 first-then-zeros : (ar : List ℕ) (a m : ℕ) → length ar ≡ suc m → get_or ar 0 0 ≡ a → ((i : ℕ) → 0 < i → i < suc m → get_or ar i 0 ≡ 0) → ar ≡ a ∷ replicate m 0
 first-then-zeros ar a m e f z = ext_get_or 0 ar (a ∷ replicate m 0) (e ∙ ap suc (sym (length-replicate {A = ℕ} m 0))) (λ i h. go i h)
   where
@@ -58,10 +32,13 @@ first-then-zeros ar a m e f z = ext_get_or 0 ar (a ∷ replicate m 0) (e ∙ ap 
     go zero h = f
     go (suc i) h = z (suc i) (omega arith) (omega arith) ∙ sym (get_or-replicate {A = ℕ} m i 0 0 (omega arith))
 
-pub undeclared-end : {ar : List ℕ} {p : ℕ} → Undeclared ar p → predicate_count ≤ p → ar ≡ opening.model.arities
+pub opening-arities : (ar : List ℕ) → length ar ≡ predicate_count → ((i : ℕ) → i < predicate_count → get_or ar i 0 ≡ 0)
+    → set ar equality equality_arity ≡ opening.model.arities
 unfolding opening
-undeclared-end {ar} {p} u h =
-    first-then-zeros ar equality_arity (predicate_count - 1) u.size u.first (λ i k l. u.zeros i k (omega arith))
+opening-arities ar e z =
+    first-then-zeros (set ar equality equality_arity) equality_arity (predicate_count - 1) (length-set ar equality equality_arity ∙ e)
+    (get_or-set_same ar equality equality_arity 0 (omega arith))
+    (λ i h l. get_or-set_other ar equality i equality_arity 0 (omega arith) ∙ z i (omega arith))
 
 -- ===== The session =====
 

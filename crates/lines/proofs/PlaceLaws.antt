@@ -1,5 +1,5 @@
 -- Laws of the code that tells whether a line stands where it may.
-use mathlib.Core.Path.{◌≡◌, refl, sym, ap, ap₂, ◌∙◌}
+use mathlib.Core.Path.{◌≡◌, refl, sym, ap, ap₂, subst, ◌∙◌}
 use mathlib.Core.Bool.{Bool, true, false, not, ◌&&◌, and-true, and-false, and_assoc}
 use mathlib.Core.List.{List, [], ◌∷◌, ◌++◌}
 use Prim.Native.Nat.{ℕ, zero, suc, ◌+◌, ◌*◌, ◌<◌, ◌≤◌}
@@ -19,7 +19,7 @@ use Rattle.refusal.specs.Outcome.{ok}
 use Rattle.session.specs.declared.Rule.{Rule}
 use Rattle.session.specs.declared.Rule.TheVariants as R
 use Rattle.session.specs.Session.{refuse_if}
-use Rattle.session.specs.Replies.{each_varied, each_placed, unless, allowed}
+use Rattle.session.specs.Replies.{each_varied, each_placed, allowed}
 use Rattle.declare.specs.Tables.{names_of}
 use Rattle.facts.specs.Words.{part, placed_base, live_of}
 use Rattle.names.specs.Many.{many}
@@ -27,9 +27,9 @@ use Rattle.names.specs.ManyLaws.{length-many}
 use Rattle.model.specs.Layout.{action_words, variant_at, variant_place, variants_of, action_at, model_of}
 use Rattle.memory.specs.declared.Numbers.{Numbers}
 use Rattle.memory.specs.Memory.{session_of}
-use Rattle.lines.specs.declared.Placed.{Placed}
-use Rattle.lines.specs.declared.Placed.TheVariants.{Done, Refused}
 use Rattle.lines.specs.Placing.{placed_as, Varied, Whole, AllPlaced, Placing}
+use Rattle.refusal.specs.declared.Refusal.{Refusal}
+use Rattle.std.specs.Prelude.{Err, Ok, Result}
 
 -- ===== A variant of each action =====
 
@@ -83,9 +83,9 @@ module _ (n : Numbers) (table : List ℕ) where
     is = λ names arities listings state value. rw (e, length-keys names actions_at n.counts.actions, le-leb 1 n.counts.actions (omega arith)) (v.is listings);
   }
 
-  pub whole-unrewarded : n.reward ≡ false → Whole n table false
+  pub whole-unrewarded : n.reward ≡ false → Whole n table n.reward
   unfolding session_of
-  whole-unrewarded e = record { is = λ names arities listings state value. rw e }
+  whole-unrewarded e = subst (Whole n table) (sym e) (record { is = λ names arities listings state value. rw e })
 
 -- ===== Every constant placed =====
 
@@ -114,9 +114,10 @@ pub marked_all : {state : List ℕ} {n c : ℕ} → Marking state n c → n ≤ 
 marked_all {state} {n} {c} m h = passed-all n (is_marked state) c m.passed h
 
 module _ (n : Numbers) (state : List ℕ) where
-  pub placed-none : n.live.objects ≡ 0 → AllPlaced n state false
+  pub placed-none : n.live.objects ≡ 0 → AllPlaced n state (not (eqb n.live.objects 0))
   unfolding session_of live_of
-  placed-none z = record { is = λ names arities listings table value. rw z }
+  placed-none z =
+      subst (λ (k : ℕ). AllPlaced n state (not (eqb k 0))) (sym z) (record { is = λ names arities listings table value. rw z })
 
   pub placed-each : {r : Bool} → (n.live.objects ≡ 0 → ⊥) → r ≡ each_placed (part state placed_base constant_count) n.counts.constants → AllPlaced n state r
   unfolding session_of live_of names_of
@@ -131,48 +132,48 @@ none_or_some zero = refl
 none_or_some (suc k) = rw (ne_eqb (suc k) 0 (omega arith), le-leb 1 (suc k) (omega arith))
 
 module _ (n : Numbers) (table state : List ℕ) {rule : Rule} where
-  pub place-no-form : rule ≡ R.NoForm → Placing rule n table state (Refused Form)
+  pub place-no-form : rule ≡ R.NoForm → Placing rule n table state (Err Form)
   unfolding allowed
   place-no-form e = record { is = λ names arities listings value. rw e }
 
-  pub place-misplaced : rule ≡ R.Misplaced → Placing rule n table state (Refused Place)
+  pub place-misplaced : rule ≡ R.Misplaced → Placing rule n table state (Err Place)
   unfolding allowed
   place-misplaced e = record { is = λ names arities listings value. rw e }
 
-  pub place-anywhere : rule ≡ R.Anywhere → Placing rule n table state Done
+  pub place-anywhere : rule ≡ R.Anywhere → Placing rule n table state (Ok tt)
   unfolding allowed
   place-anywhere e = record { is = λ names arities listings value. rw e }
 
-  module _ {r : Placed} where
-    pub place-total : rule ≡ R.OneTotal → r ≡ placed_as (unless n.total) → Placing rule n table state r
+  module _ {r : Result (Unit {0}) Refusal} where
+    pub place-total : rule ≡ R.OneTotal → r ≡ placed_as (refuse_if n.total Place (ok tt)) → Placing rule n table state r
     unfolding allowed session_of
     place-total e u = record { is = λ names arities listings value. rw e u }
 
-    pub place-discount : rule ≡ R.OneDiscount → r ≡ placed_as (unless n.discount) → Placing rule n table state r
+    pub place-discount : rule ≡ R.OneDiscount → r ≡ placed_as (refuse_if n.discount Place (ok tt)) → Placing rule n table state r
     unfolding allowed session_of
     place-discount e u = record { is = λ names arities listings value. rw e u }
 
-    pub place-reward : rule ≡ R.OneReward → r ≡ placed_as (unless n.reward) → Placing rule n table state r
+    pub place-reward : rule ≡ R.OneReward → r ≡ placed_as (refuse_if n.reward Place (ok tt)) → Placing rule n table state r
     unfolding allowed session_of
     place-reward e u = record { is = λ names arities listings value. rw e u }
 
-    pub place-action : rule ≡ R.AfterAction → r ≡ placed_as (unless (eqb n.counts.actions 0)) → Placing rule n table state r
+    pub place-action : rule ≡ R.AfterAction → r ≡ placed_as (refuse_if (eqb n.counts.actions 0) Place (ok tt)) → Placing rule n table state r
     unfolding allowed session_of names_of
     place-action e u = record {
       is = λ names arities listings value. rw (e, length-keys names actions_at n.counts.actions, ← none_or_some n.counts.actions) u;
     }
 
-    pub place-variant : rule ≡ R.AfterVariant → r ≡ placed_as (unless (eqb n.counts.variants 0)) → Placing rule n table state r
+    pub place-variant : rule ≡ R.AfterVariant → r ≡ placed_as (refuse_if (eqb n.counts.variants 0) Place (ok tt)) → Placing rule n table state r
     unfolding allowed session_of names_of
     place-variant e u = record {
       is = λ names arities listings value. rw (e, length-keys names (variants_at + n.counts.earlier * 2) n.counts.variants, ← none_or_some n.counts.variants) u;
     }
 
-    pub place-objects : rule ≡ R.AfterObjects → r ≡ placed_as (unless (eqb n.live.objects 0)) → Placing rule n table state r
+    pub place-objects : rule ≡ R.AfterObjects → r ≡ placed_as (refuse_if (eqb n.live.objects 0) Place (ok tt)) → Placing rule n table state r
     unfolding allowed session_of live_of
     place-objects e u = record { is = λ names arities listings value. rw (e, ← none_or_some n.live.objects) u }
 
-    module _ {b : Bool} (u : r ≡ placed_as (unless (not b))) where
+    module _ {b : Bool} (u : r ≡ placed_as (refuse_if (not b) Place (ok tt))) where
       pub place-whole : rule ≡ R.WholeModel → Whole n table b → Placing rule n table state r
       unfolding allowed
       place-whole e w = record {

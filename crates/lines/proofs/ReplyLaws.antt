@@ -27,19 +27,18 @@ use Rattle.memory.specs.declared.Said.{Said}
 use Rattle.memory.specs.Inner.{Ready, Shown, Kept, Replied}
 use Rattle.memory.specs.Memory.{Memory, session_of}
 use Rattle.memory.specs.CarriedLaws.{carried_same}
-use Rattle.lines.specs.declared.Placed.{Placed}
-use Rattle.lines.specs.declared.Placed.TheVariants.{Done, Refused}
 use Rattle.lines.specs.Lines.{Performed}
 use Rattle.lines.specs.Placing.{placed_as, Counted, Placing}
 use Rattle.lines.proofs.KeptLaws.{kept-good}
+use Rattle.std.specs.Prelude.{Err, Ok, Result}
 
 -- ===== The place =====
 
-placed-done : (o : Outcome (Unit {0})) → Done ≡ placed_as o → o ≡ ok tt
+placed-done : (o : Outcome (Unit {0})) → (Ok tt) ≡ placed_as o → o ≡ ok tt
 placed-done (ok u) e = refl
 placed-done (refused r) e = absurd (let z : ◌≡◌ {A = ℕ} 0 1 = cc in omega arith)
 
-placed-refused : (o : Outcome (Unit {0})) (r : Refusal) → Refused r ≡ placed_as o → o ≡ refused r
+placed-refused : (o : Outcome (Unit {0})) (r : Refusal) → Err r ≡ placed_as o → o ≡ refused r
 placed-refused (ok u) r e = absurd (let z : ◌≡◌ {A = ℕ} 0 1 = cc in omega arith)
 placed-refused (refused x) r e = cc
 
@@ -111,20 +110,20 @@ answer-blank {n} {w} h [] number e {work} =
     }
 answer-blank h (b ∷ s) number e = absurd (omega arith)
 
-place-told : (σ : Session) (k : Kind) (q : Part) {rule : Rule} {p : Placed} → rule ≡ rule_of k q → p ≡ placed_as (allowed σ rule) → p ≡ placed_as (allowed σ (rule_of k q))
+place-told : (σ : Session) (k : Kind) (q : Part) {rule : Rule} {p : Result (Unit {0}) Refusal} → rule ≡ rule_of k q → p ≡ placed_as (allowed σ rule) → p ≡ placed_as (allowed σ (rule_of k q))
 place-told σ k q e h = h ∙ ap (λ x. placed_as (allowed σ x)) e
 
-place_ok : (σ : Session) (k : Kind) (q : Part) {rule : Rule} {p : Placed} → rule ≡ rule_of k q → p ≡ placed_as (allowed σ rule) → p ≡ Done → allowed σ (rule_of k q) ≡ ok tt
+place_ok : (σ : Session) (k : Kind) (q : Part) {rule : Rule} {p : Result (Unit {0}) Refusal} → rule ≡ rule_of k q → p ≡ placed_as (allowed σ rule) → p ≡ Ok tt → allowed σ (rule_of k q) ≡ ok tt
 place_ok σ k q e h d = placed-done (allowed σ (rule_of k q)) (sym d ∙ place-told σ k q e h)
 
-module _ {n : Numbers} {w : Memory} {k : Kind} {rule : Rule} {p : Placed} (h : Kept n w) (b : rule ≡ rule_of k n.part) (c : Placing rule n w.table w.state p) where
-  pub answer-ready : {s : List ℕ} → IsLine s k → p ≡ Done → Ready k s n w
+module _ {n : Numbers} {w : Memory} {k : Kind} {rule : Rule} {p : Result (Unit {0}) Refusal} (h : Kept n w) (b : rule ≡ rule_of k n.part) (c : Placing rule n w.table w.state p) where
+  pub answer-ready : {s : List ℕ} → IsLine s k → p ≡ Ok tt → Ready k s n w
   answer-ready l e =
       let x = place_ok (session_of n w) k n.part b (c.is w.names w.arities w.listings w.value) e in
       let t = l.written (some-kind (session_of n w) k n.part x) in
       record { line = record { words = t.0; good = t.1; bytes = t.2 }; stored = h.stored; good = h.good; indexed = h.indexed; place = x }
 
-  pub answer-refused : (s : List ℕ) (number : ℕ) {r : Refusal} → (length s ≡ 0 → ⊥) → k ≡ line_kind s → p ≡ Refused r
+  pub answer-refused : (s : List ℕ) (number : ℕ) {r : Refusal} → (length s ≡ 0 → ⊥) → k ≡ line_kind s → p ≡ Err r
       → {work : List ℕ} → Replied s number n w (record { numbers = n; answer = A.Refused r number }) w work
   unfolding session_of table_of
   answer-refused s number {r} o a e {work} =
@@ -139,7 +138,7 @@ module _ {n : Numbers} {w : Memory} {k : Kind} {rule : Rule} {p : Placed} (h : K
         carried = carried_same n w;
       }
 
-  pub answer-done : {s : List ℕ} {number : ℕ} {r : Said} {w' : Memory} {work' : List ℕ} → (length s ≡ 0 → ⊥) → k ≡ line_kind s → p ≡ Done
+  pub answer-done : {s : List ℕ} {number : ℕ} {r : Said} {w' : Memory} {work' : List ℕ} → (length s ≡ 0 → ⊥) → k ≡ line_kind s → p ≡ (Ok tt)
       → Performed k s number n w r w' work' → Replied s number n w r w' work'
   unfolding session_of
   answer-done {s} {number} {r} {w'} {work'} o a e f =

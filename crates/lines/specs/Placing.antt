@@ -10,12 +10,12 @@ use Rattle.names.specs.Many.{many}
 use Rattle.model.specs.Layout.{table_words, action_at}
 use Rattle.memory.specs.declared.Numbers.{Numbers}
 use Rattle.memory.specs.Memory.{memory_of, session_of}
-use Rattle.lines.specs.declared.Placed.{Placed}
-use Rattle.lines.specs.declared.Placed.TheVariants.{Done, Refused}
+use Rattle.refusal.specs.declared.Refusal.{Refusal}
+use Rattle.std.specs.Prelude.{Err, Ok, Result}
 
-abbrev pub placed_as : Outcome (Unit {0}) → Placed
-placed_as (ok u) = Done
-placed_as (refused r) = Refused r
+abbrev pub placed_as : Outcome (Unit {0}) → Result (Unit {0}) Refusal
+placed_as (ok u) = Ok tt
+placed_as (refused r) = Err r
 
 -- table and state have their room, and what counts of them lies within
 pub record Counted (n : Numbers) (table state : List ℕ) : Type 0 where
@@ -37,5 +37,5 @@ pub record AllPlaced (n : Numbers) (state : List ℕ) (r : Bool) : Type 0 where
   pub is : (names arities listings table value : List ℕ) → r ≡ is_placed (session_of n (memory_of names arities listings table state value))
 
 -- r: what the rule asks for is there
-pub record Placing (rule : Rule) (n : Numbers) (table state : List ℕ) (r : Placed) : Type 0 where
+pub record Placing (rule : Rule) (n : Numbers) (table state : List ℕ) (r : Result (Unit {0}) Refusal) : Type 0 where
   pub is : (names arities listings value : List ℕ) → r ≡ placed_as (allowed (session_of n (memory_of names arities listings table state value)) rule)

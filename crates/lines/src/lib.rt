@@ -4,10 +4,9 @@
 ghost use Rattle.std.specs.Prelude.{◌≡◌, true, ◌≤◌, length};
 ghost use Rattle.label.specs.Limits.{constant_count, predicate_count};
 ghost use Rattle.mdp.specs.Model.{most_actions};
-ghost use Rattle.refusal.specs.declared.Refusal.TheVariants.{Missing};
 ghost use Rattle.refusal.specs.Outcome.{ok};
 ghost use Rattle.session.specs.Session.{opening, refuse_if};
-ghost use Rattle.session.specs.Replies.{each_placed, unless};
+ghost use Rattle.session.specs.Replies.{each_placed};
 ghost use Rattle.facts.specs.Words.{part, placed_base, state_words};
 ghost use Rattle.model.specs.Layout.{table_words};
 ghost use Rattle.memory.specs.Inner.{Ready, Kept, Replied};
@@ -28,12 +27,8 @@ fn open_arities(arities: &mut [u64])
     requires { length arities.old ≡ predicate_count }
     ensures { arities.new ≡ opening.model.arities }
 {
+    arities.fill(0);
     arities[Label::EQUALITY as usize] = Label::EQUALITY_ARITY;
-    let mut p = 1;
-    while p < Label::PREDICATES {
-        arities[p] = 0;
-        p += 1;
-    }
 }
 
 // Before the first line.
@@ -47,25 +42,16 @@ pub fn open(arities: &mut [u64], state: &mut [u64]) -> Numbers
     memory::opening()
 }
 
-// Whether a line stands where it may, or why it is refused.
-#[derive(Clone, Copy)]
-enum Placed {
-    Done,
-    Refused(Refusal),
-}
-
 // Whether each of the first actions of the table has a variant.
 fn each_varied(table: &[u64], actions: usize) -> bool
     requires table_words_in_bounds { table_words ≤ length table.now }
     requires actions_le_most_actions { actions ≤ most_actions }
     ensures { Varied table.now actions result }
 {
-    let mut a = 0;
-    while a < actions {
+    for a in 0..actions {
         if table[a * model::ACTION_WORDS + 1] == 0 {
             return false;
         }
-        a += 1;
     }
     true
 }
@@ -79,10 +65,7 @@ fn is_whole(n: Numbers, table: &[u64]) -> bool
     if n.counts.actions == 0 {
         return false;
     }
-    if n.reward {
-        return each_varied(table, n.head.actions);
-    }
-    false
+    n.reward && each_varied(table, n.head.actions)
 }
 
 // Whether the first constants are placed.
@@ -91,12 +74,10 @@ fn each_placed(state: &[u64], constants: usize) -> bool
     requires constants_le_constant_count { constants ≤ constant_count }
     ensures { result ≡ each_placed (part state.now placed_base constant_count) constants }
 {
-    let mut c = 0;
-    while c < constants {
+    for c in 0..constants {
         if state[facts::PLACED + c] != 1 {
             return false;
         }
-        c += 1;
     }
     true
 }
@@ -107,51 +88,38 @@ fn is_placed(n: Numbers, state: &[u64]) -> bool
     requires constants_le_constant_count { n.counts.constants ≤ constant_count }
     ensures { AllPlaced n state.now result }
 {
-    if n.live.objects == 0 {
-        return false;
-    }
-    each_placed(state, n.counts.constants)
+    n.live.objects != 0 && each_placed(state, n.counts.constants)
 }
 
-// Refused with 5 if b.
-fn unless(b: bool) -> Placed
-    ensures { result ≡ placed_as (unless b) }
+// Refused if b.
+fn refuse_if(b: bool, why: Refusal) -> Result<(), Refusal>
+    ensures { result ≡ placed_as (refuse_if b why (ok tt)) }
 {
     if b {
-        return Placed::Refused(Refusal::Place);
+        return Err(why);
     }
-    Placed::Done
-}
-
-// Refused with 20 if b.
-fn missing(b: bool) -> Placed
-    ensures { result ≡ placed_as (refuse_if b Missing (ok tt)) }
-{
-    if b {
-        return Placed::Refused(Refusal::Missing);
-    }
-    Placed::Done
+    Ok(())
 }
 
 // Whether what the rule asks for is there.
-fn allowed(rule: Rule, n: Numbers, table: &[u64], state: &[u64]) -> Placed
+fn allowed(rule: Rule, n: Numbers, table: &[u64], state: &[u64]) -> Result<(), Refusal>
     requires { Counted n table.now state.now }
     ensures { Placing rule n table.now state.now result }
 {
     match rule {
-        Rule::NoForm => Placed::Refused(Refusal::Form),
-        Rule::Misplaced => Placed::Refused(Refusal::Place),
-        Rule::Anywhere => Placed::Done,
-        Rule::OneTotal => unless(n.total),
-        Rule::OneDiscount => unless(n.discount),
-        Rule::OneReward => unless(n.reward),
-        Rule::AfterAction => unless(n.counts.actions == 0),
-        Rule::AfterVariant => unless(n.counts.variants == 0),
-        Rule::WholeModel => unless(!is_whole(n, table)),
-        Rule::AfterObjects => unless(n.live.objects == 0),
-        Rule::WholeState => unless(!is_placed(n, state)),
-        Rule::MoveState => missing(!is_placed(n, state)),
-        Rule::Constants => unless(!each_placed(state, n.counts.constants)),
+        Rule::NoForm => Err(Refusal::Form),
+        Rule::Misplaced => Err(Refusal::Place),
+        Rule::Anywhere => Ok(()),
+        Rule::OneTotal => refuse_if(n.total, Refusal::Place),
+        Rule::OneDiscount => refuse_if(n.discount, Refusal::Place),
+        Rule::OneReward => refuse_if(n.reward, Refusal::Place),
+        Rule::AfterAction => refuse_if(n.counts.actions == 0, Refusal::Place),
+        Rule::AfterVariant => refuse_if(n.counts.variants == 0, Refusal::Place),
+        Rule::WholeModel => refuse_if(!is_whole(n, table), Refusal::Place),
+        Rule::AfterObjects => refuse_if(n.live.objects == 0, Refusal::Place),
+        Rule::WholeState => refuse_if(!is_placed(n, state), Refusal::Place),
+        Rule::MoveState => refuse_if(!is_placed(n, state), Refusal::Missing),
+        Rule::Constants => refuse_if(!each_placed(state, n.counts.constants), Refusal::Place),
     }
 }
 
@@ -312,13 +280,12 @@ pub fn answer(
         };
     }
     let kind = line_reader::read_line(line);
-    let part = n.part;
-    let rule = session::rule_of(kind, part);
+    let rule = session::rule_of(kind, n.part);
     match allowed(rule, n, table, state) {
-        Placed::Done => perform(
+        Ok(()) => perform(
             kind, line, number, n, names, arities, listings, table, state, value, work,
         ),
-        Placed::Refused(why) => Said {
+        Err(why) => Said {
             numbers: n,
             answer: Answer::Refused(why, number),
         },

@@ -1,15 +1,17 @@
 -- Laws of marking the terms that a listing uses, and of counting the marked variables.
-use mathlib.Core.Path.{◌≡◌, refl, sym, ap, subst, ◌∙◌}
-use mathlib.Core.Bool.{Bool, true, false, ◌||◌, cond}
+use mathlib.Core.Path.{◌≡◌, refl, sym, ap, ap₂, subst, ◌∙◌}
+use mathlib.Core.Bool.{Bool, true, false, not, ◌||◌, cond}
 use mathlib.Core.List.{List, [], ◌∷◌}
 use Prim.Native.Nat.{ℕ, zero, suc, ◌+◌, ◌-◌, ◌*◌, ◌/◌, ◌<◌, ◌≤◌, zero-le}
 use native.Mathlib.Omega.{arith}
 use native.Mathlib.Numerals.{add-one}
-use lib.ListN.{length, get_or, set, take, length-set}
-use lib.Seq.{get_or-set_same, get_or-set_other}
+use lib.ListN.{length, get_or, set, take, drop, length-set, replicate, length-replicate, get_or-replicate}
+use lib.Seq.{drop-cons, get_or-set_same, get_or-set_other}
 use lib.Dec.{eqb}
-use borrow.Author.Tests.{eqb-true, eqb-false, eq-eqb, ne_eqb}
-use Rattle.basics.specs.Tests.{Flag, is_true, is_false, flag, Cmp, cmp, below, equal, above, cond-const}
+use Rattle.std.specs.List.{count_by}
+use Rattle.std.proofs.lemmas.List.Sums.{sum_by-cons}
+use borrow.Author.Tests.{eqb-true, eqb-false}
+use Rattle.basics.specs.Tests.{Flag, is_true, is_false, flag, cond-const}
 use Rattle.basics.specs.Members.{mem}
 use Rattle.label.specs.Limits.{leaf_mark, term_end, most_places, predicate_count, first_variable, first_minimum}
 use Rattle.label.specs.Labels.{places_of, predicate_of, place_at, unpacked, is_label, terms_of}
@@ -20,29 +22,8 @@ use Rattle.diagram.specs.Listing.{diagram_of}
 use Rattle.diagram.specs.Validity.{Valid}
 use Rattle.diagram.specs.RowDiagrams.{branch_row}
 use Rattle.diagram.specs.DiagramOfListing.{valid-rows}
-use Rattle.listing.specs.Used.{row_terms, mentioned, marked, Markable, Cleared, Used, set_from, marked_variables, marked_minimums}
+use Rattle.listing.specs.Used.{row_terms, mentioned, marked, Markable, Used, set_from, marked_variables, marked_minimums}
 use Rattle.listing.specs.UsedLaws.{terms-leaf, terms-branch, mentioned-none, mentioned-more, mentioned-occurs}
-
--- clear: the marks before t are cleared
-pub record Clearing (ms : List ℕ) (t : ℕ) : Type 0 where
-  pub whole : length ms ≡ term_end
-  pub most : t ≤ term_end
-  pub zeros : (k : ℕ) → k < t → get_or ms k 0 ≡ 0
-
-module _ {ms : List ℕ} where
-  pub clear-start : length ms ≡ term_end → Clearing ms 0
-  clear-start h = record { whole = h; most = zero-le; zeros = λ k l. absurd (omega arith) }
-
-  pub clear_next : {t : ℕ} → Clearing ms t → t < term_end → Clearing (set ms t 0) (t + 1)
-  clear_next {t} c h = record { whole = rw length-set c.whole; most = omega arith; zeros = λ k l. go k l (cmp k t) }
-    where
-      go : (k : ℕ) → k < t + 1 → Cmp k t → get_or (set ms t 0) k 0 ≡ 0
-      go k l (below q) = get_or-set_other ms t k 0 0 (omega arith) ∙ c.zeros k q
-      go k l (equal q) = rw q (get_or-set_same ms t 0 0 (omega (arith, c.whole)))
-      go k l (above q) = absurd (omega arith)
-
-  pub clear-end : {t : ℕ} → Clearing ms t → term_end ≤ t → Cleared ms
-  clear-end c h = record { whole = c.whole; zeros = λ k l. c.zeros k (omega arith) }
 
 -- mark_row: the terms of a branch, by its label's places
 module _ (ar ws ms : List ℕ) (i : ℕ) where
@@ -118,8 +99,12 @@ pub record Marking (ar ws ms : List ℕ) (i : ℕ) : Type 0 where
   pub each : (t : ℕ) → t < term_end → get_or ms t 0 ≡ cond (mentioned ar ws i t) 1 0
 
 module _ {ar ws ms : List ℕ} where
-  pub mark-start : Cleared ms → Marking ar ws ms 0
-  mark-start c = record { whole = c.whole; most = zero-le; each = λ t h. rw (mentioned-none ar ws t) (c.zeros t h) }
+  pub mark-start : {n : ℕ} → n ≡ term_end → ms ≡ replicate n 0 → Marking ar ws ms 0
+  mark-start {n} l e = record {
+    whole = rw (e, length-replicate) l;
+    most = zero-le;
+    each = λ t h. rw (mentioned-none ar ws t, e) (get_or-replicate n t 0 0 (omega arith));
+  }
 
   pub markable : {i : ℕ} → Valid ar ws → Marking ar ws ms i → i < length ws / 3 → Markable ar ws ms i
   markable v m h = record { valid = v; row = h; whole = m.whole }
@@ -141,60 +126,18 @@ module _ {ar ws ms : List ℕ} where
       let e : i ≡ row_count ws = omega (arith, m.most) in
       record { whole = m.whole; each = λ t l. m.each t l ∙ rw (e, mentioned-occurs ar ws v t) }
 
--- counted
-pub count_none : (x : ℕ) → x ≡ 0 → ◌≡◌ {A = ℕ} 0 (cond (eqb x 0) 0 1)
-count_none x e = rw (eq-eqb x 0 e)
-
-pub count-one : (x : ℕ) → (x ≡ 0 → ⊥) → ◌≡◌ {A = ℕ} 1 (cond (eqb x 0) 0 1)
-count-one x e = rw (ne_eqb x 0 e)
-
-set-none : (ms : List ℕ) (t : ℕ) → set_from ms t 0 ≡ 0
+-- count_between: the marks that are set, by a filter
+pub count_is : (ms : List ℕ) (t n : ℕ) → t + n ≤ length ms → count_by (λ x. not (eqb x 0)) (take n (drop t ms)) ≡ set_from ms t n
 unfolding set_from
-set-none ms t = refl
-
-set_more : (ms : List ℕ) (t n : ℕ) → set_from ms t (suc n) ≡ cond (eqb (get_or ms t 0) 0) 0 1 + set_from ms (suc t) n
-unfolding set_from
-set_more ms t n = refl
-
-count_small : {x : ℕ} (m : ℕ) → x ≡ cond (eqb m 0) 0 1 → x ≤ 1
-count_small {x} m e = go (flag (eqb m 0))
+count_is ms t zero h = refl
+count_is ms t (suc n) h =
+    let l : t < length ms = omega arith in
+    rw (drop-cons ms t 0)
+    (sum_by-cons (λ x. cond (not (eqb x 0)) 1 0) (get_or ms t 0) (take n (drop (suc t) ms)) ∙ ap₂ ◌+◌ (go (eqb (get_or ms t 0) 0)) (count_is ms (suc t) n (omega arith)))
   where
-    go : Flag (eqb m 0) → x ≤ 1
-    go (is_true q) = let z : x ≡ 0 = e ∙ rw q in omega arith
-    go (is_false q) = let z : x ≡ 1 = e ∙ rw q in omega arith
-
-plus_none : (n x : ℕ) → x ≡ 0 → n ≡ n + x
-plus_none n x e = omega arith
-
--- count_between: n of the marks from `first` on and before t are set
-pub record Counting (ms : List ℕ) (first end n t : ℕ) : Type 0 where
-  pub most : t ≤ end
-  pub last : end ≤ term_end
-  pub fewer : n + first ≤ t
-  pub sum : n + set_from ms t (end - t) ≡ set_from ms first (end - first)
-
-module _ {ms : List ℕ} {first end : ℕ} where
-  pub count-start : first ≤ end → end ≤ term_end → Counting ms first end 0 first
-  count-start h k = record { most = h; last = k; fewer = omega arith; sum = omega arith }
-
-  pub count_next : {n t x : ℕ} → Counting ms first end n t → t < end → x ≡ cond (eqb (get_or ms t 0) 0) 0 1 → Counting ms first end (n + x) (t + 1)
-  count_next {n} {t} {x} c h e = record { most = omega arith; last = c.last; fewer = omega (arith, c.fewer, count_small (get_or ms t 0) e); sum = all }
-    where
-      all : n + x + set_from ms (t + 1) (end - (t + 1)) ≡ set_from ms first (end - first)
-      all =
-          let p : end - t ≡ suc (end - (t + 1)) = omega arith in
-          let q : set_from ms t (end - t) ≡ x + set_from ms (suc t) (end - (t + 1)) = ap (set_from ms t) p ∙ set_more ms t (end - (t + 1)) ∙ rw e in
-          let r : set_from ms (t + 1) (end - (t + 1)) ≡ set_from ms (suc t) (end - (t + 1)) = rw add-one in
-          omega (arith, c.sum)
-
-  pub count_room : {n t x : ℕ} → Counting ms first end n t → x ≡ cond (eqb (get_or ms t 0) 0) 0 1 → n + x < 18446744073709551616
-  count_room {n} {t} {x} c e = omega (arith, c.most, c.last, c.fewer, count_small (get_or ms t 0) e)
-
-  pub count-end : {n t : ℕ} → Counting ms first end n t → end ≤ t → n ≡ set_from ms first (end - first)
-  count-end {n} {t} c h =
-      let p : end - t ≡ 0 = omega arith in
-      let q : set_from ms t (end - t) ≡ 0 = ap (set_from ms t) p ∙ set-none ms t in
-      plus_none n _ q ∙ c.sum
+    go : (b : Bool) → ◌≡◌ {A = ℕ} (cond (not b) 1 0) (cond b 0 1)
+    go true = refl
+    go false = refl
 
 pub counted-variables : (ms : List ℕ) {n : ℕ} → n ≡ set_from ms first_variable (first_minimum - first_variable) → n ≡ marked_variables ms
 unfolding marked_variables

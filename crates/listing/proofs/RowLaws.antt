@@ -14,8 +14,6 @@ use Rattle.label.proofs.LabelLaws.{label-below}
 use Rattle.label.specs.Inner.{Compared}
 use Rattle.label.proofs.OrderLaws.{compared-less, compared-not}
 use Rattle.table.specs.declared.Row.{Row}
-use Rattle.table.specs.declared.Found.{Found}
-use Rattle.table.specs.declared.Found.TheVariants.{At, Nothing}
 use Rattle.table.specs.Rows.{row_at, put_at, rows, first_in}
 use Rattle.table.specs.Table.{buckets, hash_of, Table}
 use Rattle.table.proofs.RowLaws.{row-ext, found_none, none_found}
@@ -26,6 +24,7 @@ use Rattle.diagram.specs.WordLaws.{rows-differ, differ-rows}
 use Rattle.diagram.specs.Validity.{LeafRow, BranchRow, ValidRow, a-leaf, a-branch, ValidRows}
 use Rattle.listing.specs.Inner.{Entered}
 use Rattle.listing.specs.Check.{Decides}
+use Rattle.std.specs.Prelude.{None, Option, Some}
 
 pub deny : {P : Type 0} → (P → ⊥) → Decides false P
 deny f = record { yes = λ e. absurd (true≢false (sym e)); no = λ e. f }
@@ -114,18 +113,18 @@ put_id : (s : List ℕ) (i : ℕ) → put_at s i (row_at s i) ≡ s
 unfolding put_at row_at
 put_id s i = rw (set-get_or s (i * 3) 0, set-get_or s (i * 3 + 1) 0, set-get_or s (i * 3 + 2) 0)
 
-module _ {s heads links : List ℕ} {limit i : ℕ} {r : Row} {f : Found} (t : Table s heads links limit i) (e : r ≡ row_at s i) (l : f ≡ first_in (rows s i) r) where
-  pub enter-new : {b : ℕ} → i < limit → f ≡ Nothing → (b ≡ hash_of r) × (b < buckets)
+module _ {s heads links : List ℕ} {limit i : ℕ} {r : Row} {f : Option ℕ} (t : Table s heads links limit i) (e : r ≡ row_at s i) (l : f ≡ first_in (rows s i) r) where
+  pub enter-new : {b : ℕ} → i < limit → f ≡ None → (b ≡ hash_of r) × (b < buckets)
       → Entered s limit i true (set heads b (i + 1)) (set links i (get_or heads b 0))
   enter-new {b} room n h =
       let w = added s heads links limit i t r room (none_found s i r (sym l ∙ n)) b h.0 h.1 in
       let p : put_at s i r ≡ s = rw e (put_id s i) in
       record { yes = λ x. rw p at w; no = λ x. absurd (true≢false x) }
 
-  pub enter-old : {j : ℕ} → f ≡ At j → Entered s limit i false heads links
+  pub enter-old : {j : ℕ} → f ≡ Some j → Entered s limit i false heads links
   enter-old {j} n = record {
     yes = λ x. absurd (true≢false (sym x));
-    no = λ x g. let z : At j ≡ Nothing = sym n ∙ l ∙ found_none s i r (λ k h q. g k h (q ∙ e)) in let z' : ◌≡◌ {A = ℕ} 0 1 = cc in omega arith;
+    no = λ x g. let z : Some j ≡ None = sym n ∙ l ∙ found_none s i r (λ k h q. g k h (q ∙ e)) in let z' : ◌≡◌ {A = ℕ} 0 1 = cc in omega arith;
   }
 
 -- are_valid_rows: what the loop has passed

@@ -48,8 +48,3 @@ pub record Markable (ar ws ms : List ℕ) (i : ℕ) : Type 0 where
   pub valid : Valid ar ws
   pub row : i < row_count ws
   pub whole : length ms ≡ term_end
-
--- what clearing the marks ensures
-pub record Cleared (ms : List ℕ) : Type 0 where
-  pub whole : length ms ≡ term_end
-  pub zeros : (t : ℕ) → t < term_end → get_or ms t 0 ≡ 0

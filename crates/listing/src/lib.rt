@@ -1,7 +1,7 @@
 // The check that lent words are a listing (refusal 14), and the terms that a listing uses.
 #![tactic(auto)]
 
-ghost use Rattle.std.specs.Prelude.{◌≡◌, ◌+◌, ◌-◌, ◌*◌, ◌<◌, ◌≤◌, cond, eqb, length};
+ghost use Rattle.std.specs.Prelude.{◌≡◌, ◌+◌, ◌-◌, ◌*◌, ◌<◌, ◌≤◌, eqb, length};
 ghost use Rattle.label.specs.Limits.{predicate_count, term_end};
 ghost use Rattle.table.specs.Table.{Table};
 ghost use Rattle.diagram.specs.Words.{is_listing};
@@ -9,10 +9,9 @@ ghost use Rattle.diagram.specs.Listing.{diagram_of};
 ghost use Rattle.diagram.specs.Validity.{ValidRow, ValidRows, Valid};
 ghost use Rattle.listing.specs.Inner.{Entered, Downward, Walked};
 ghost use Rattle.listing.specs.Check.{Decides};
-ghost use Rattle.listing.specs.Used.{row_terms, marked, Markable, Cleared, Used, set_from, marked_variables, marked_minimums};
+ghost use Rattle.listing.specs.Used.{row_terms, marked, Markable, Used, set_from, marked_variables, marked_minimums};
 
 use label::{Label, Term};
-use table::Found;
 
 // Whether row i is a leaf or a branch, its children before it.
 fn is_valid_row(arities: &[u64], words: &[u64], i: usize) -> bool
@@ -60,13 +59,15 @@ fn enter(words: &[u64], heads: &mut [u16], links: &mut [u16], limit: usize, i: u
     ensures { Entered words.now limit i result heads.new links.new }
 {
     let row = table::row_at(words, i);
-    let Found::At(_) = table::lookup(words, heads, links, limit, i, row) else {
-        let h = table::hash(row);
-        links[i] = heads[h];
-        heads[h] = (i + 1) as u16;
-        return true;
-    };
-    false
+    match table::lookup(words, heads, links, limit, i, row) {
+        Some(_) => false,
+        None => {
+            let h = table::hash(row);
+            links[i] = heads[h];
+            heads[h] = (i + 1) as u16;
+            true
+        }
+    }
 }
 
 // Whether the m rows are valid one by one and no two are equal.
@@ -81,15 +82,13 @@ fn are_valid_rows(
     requires table { Table words.now heads.old links.old m 0 }
     ensures { Decides result (ValidRows arities.now words.now m) }
 {
-    let mut i = 0;
-    while i < m {
+    for i in 0..m {
         if !is_valid_row(arities, words, i) {
             return false;
         }
         if !enter(words, heads, links, m, i) {
             return false;
         }
-        i += 1;
     }
     true
 }
@@ -100,10 +99,7 @@ fn visit(words: &[u64], i: usize, n: usize) -> usize
     requires { Downward words.now i }
     ensures { Walked words.now i n result }
 {
-    if i < n {
-        return n;
-    }
-    walk(words, i, n)
+    if i < n { n } else { walk(words, i, n) }
 }
 
 // The same for a row that is not finished. Apart from visit, so that a child that is finished costs no call.
@@ -124,10 +120,7 @@ fn walk(words: &[u64], i: usize, n: usize) -> usize
         return 0;
     }
     let b = visit(words, words[i * 3 + 2] as usize, a);
-    if b == i {
-        return i + 1;
-    }
-    0
+    if b == i { i + 1 } else { 0 }
 }
 
 // Whether the words are a listing under the arity list.
@@ -158,18 +151,6 @@ pub fn check(arities: &[u64], words: &[u64]) -> bool
     true
 }
 
-// Clears the marks, one for each term.
-fn clear(marks: &mut [u64])
-    requires { length marks.old ≡ term_end }
-    ensures { Cleared marks.new }
-{
-    let mut t = 0;
-    while t < (Term::END as usize) {
-        marks[t] = 0;
-        t += 1;
-    }
-}
-
 // Marks the terms of row i's label.
 fn mark_row(arities: &[u64], words: &[u64], marks: &mut [u64], i: usize)
     requires { Markable arities.now words.now marks.old i }
@@ -181,10 +162,8 @@ fn mark_row(arities: &[u64], words: &[u64], marks: &mut [u64], i: usize)
     }
     let label = Label { packed: l };
     let n = arities[label.predicate() as usize];
-    let mut k = 0;
-    while k < n {
+    for k in 0..n {
         marks[label.place(k) as usize] = 1;
-        k += 1;
     }
 }
 
@@ -194,23 +173,10 @@ pub fn used(arities: &[u64], words: &[u64], marks: &mut [u64])
     requires marks_len { length marks.old ≡ term_end }
     ensures { Used arities.now (diagram_of words.now) marks.new }
 {
-    clear(marks);
-    let m = words.len() / 3;
-    let mut i = 0;
-    while i < m {
+    marks.fill(0);
+    for i in 0..words.len() / 3 {
         mark_row(arities, words, marks, i);
-        i += 1;
     }
-}
-
-// 1 for a mark that is set, 0 for another.
-fn counted(mark: u64) -> usize
-    ensures { result ≡ cond (eqb mark 0) 0 1 }
-{
-    if mark == 0 {
-        return 0;
-    }
-    1
 }
 
 // How many of the terms from `first` on and before `end` are marked.
@@ -220,13 +186,7 @@ fn count_between(marks: &[u64], first: usize, end: usize) -> usize
     requires end_le_term_end { end ≤ term_end }
     ensures { result ≡ set_from marks.now first (end - first) }
 {
-    let mut n = 0;
-    let mut t = first;
-    while t < end {
-        n += counted(marks[t]);
-        t += 1;
-    }
-    n
+    marks[first..end].iter().filter(|mark| **mark != 0).count()
 }
 
 // How many variables are marked.

@@ -1,12 +1,14 @@
 -- Marking the terms of literals, and the tables that a search starts from.
 use mathlib.Core.Path.{◌≡◌, refl, sym, ap, ap₂, subst, ◌∙◌}
 use mathlib.Core.Logic.{◌⊎◌, inl, inr}
-use mathlib.Core.List.{List, [], ◌∷◌, Memᴰ}
+use mathlib.Core.List.{List, [], ◌∷◌, ◌++◌, Memᴰ}
 use Prim.Native.Nat.{ℕ, ◌+◌, ◌-◌, ◌/◌, ◌≤◌, ◌<◌}
 use native.Mathlib.Omega.{arith}
 use native.Mathlib.Numerals.{add-one}
-use lib.ListN.{length, get_or, set, drop, length-set}
-use lib.Seq.{get_or-set_same, get_or-set_other, drop-set-lt, get_or-drop}
+use lib.ListN.{length, get_or, set, take, drop, length-set, get_or-append}
+use lib.Seq.{length-take-le, get_or-set_same, get_or-set_other, drop-set-lt, get_or-drop}
+use borrow.Rule.Slice.PartMut.{put_mid, post_of}
+use Rattle.std.proofs.lemmas.List.{get_or-append_right}
 use Rattle.basics.specs.Tests.{Cmp, cmp, below, equal, above}
 use Rattle.label.specs.Limits.{first_minimum, first_variable, most_places}
 use Rattle.label.specs.Labels.{predicate_of, place_at}
@@ -67,30 +69,12 @@ marked_from (u ∷ us) ms t h = go (marked_from us (set ms u 1) t h) (cmp t u)
 
 -- ===== mark_places =====
 
--- the first k places of the label l are marked
-pub record MarkingPlaces (ms₀ : List ℕ) (l n : ℕ) (ms : List ℕ) (k : ℕ) : Type 0 where
-  pub most : k ≤ n
-  pub is : ms ≡ marked (along (place_at l) k) ms₀
-
-pub places-start : (ms : List ℕ) (l n : ℕ) → MarkingPlaces ms l n ms 0
-unfolding along
-places-start ms l n = record { most = omega arith; is = refl }
-
-pub places-term : {l n k t : ℕ} → InRange first_minimum l → n ≤ most_places → k < n → t ≡ place_at l k → t < first_minimum
-places-term {k = k} r h q e = omega (arith, r.places k (omega arith))
-
-pub places-next : {ms₀ : List ℕ} {l n : ℕ} {ms : List ℕ} {k t : ℕ} → MarkingPlaces ms₀ l n ms k → k < n → t ≡ place_at l k → MarkingPlaces ms₀ l n (set ms t 1) (k + 1)
-places-next {ms₀} {l} {n} {ms} {k} {t} m h e = record {
-  most = omega arith;
-  is = ap₂ (λ (xs : List ℕ) (v : ℕ). set xs v 1) m.is e ∙ sym (marked-snoc (along (place_at l) k) (place_at l k) ms₀)
-      ∙ ap (λ (ts : List ℕ). marked ts ms₀) (sym (along-suc (place_at l) k) ∙ ap (along (place_at l)) (sym (add-one k)));
-}
-
-pub places-end : {ms₀ : List ℕ} {l n : ℕ} {ms : List ℕ} {k : ℕ} → MarkingPlaces ms₀ l n ms k → n ≤ k → ms ≡ marked (along (place_at l) n) ms₀
-places-end {ms₀} {l} {n} {ms} m h = let e = m.most in subst (λ (i : ℕ). ms ≡ marked (along (place_at l) i) ms₀) (omega arith) m.is
-
-pub places-length : {ms₀ : List ℕ} {l n : ℕ} {ms : List ℕ} {k : ℕ} → MarkingPlaces ms₀ l n ms k → length ms ≡ length ms₀
-places-length {ms₀} {l} {k = k} m = ap length m.is ∙ length_marked (along (place_at l) k) ms₀
+-- one place more is marked
+pub places-next : (ms₀ : List ℕ) (l k : ℕ) {ms : List ℕ} {t : ℕ} → ms ≡ marked (along (place_at l) k) ms₀ → t ≡ place_at l k
+    → set ms t 1 ≡ marked (along (place_at l) (k + 1)) ms₀
+places-next ms₀ l k m e =
+    ap₂ (λ (xs : List ℕ) (v : ℕ). set xs v 1) m e ∙ sym (marked-snoc (along (place_at l) k) (place_at l k) ms₀)
+    ∙ ap (λ (ts : List ℕ). marked ts ms₀) (sym (along-suc (place_at l) k) ∙ ap (along (place_at l)) (sym (add-one k)))
 
 -- ===== mark_literal =====
 module _ {ar ms : List ℕ} {x : ℕ} (m : Markable ar ms x) where
@@ -104,32 +88,6 @@ module _ {ar ms : List ℕ} {x : ℕ} (m : Markable ar ms x) where
   unfolding terms_of_code
   literal-marked e q =
       q ∙ ap (λ (ts : List ℕ). marked ts ms) (ap (λ (i : ℕ). along (place_at (x / 2)) (get_or ar i 0)) e ∙ sym (terms-along ar (x / 2) m.arities))
-
--- ===== clear_marks =====
-
--- the marks before t are cleared
-pub record Clearing (out₀ out : List ℕ) (t : ℕ) : Type 0 where
-  pub length-kept : length out ≡ length out₀
-  pub behind : drop first_minimum out ≡ drop first_minimum out₀
-  pub clear : (u : ℕ) → u < t → get_or out u 0 ≡ 0
-
-pub clearing-start : (out : List ℕ) → Clearing out out 0
-clearing-start out = record { length-kept = refl; behind = refl; clear = λ u h. absurd (omega arith) }
-
-pub clearing-next : {out₀ out : List ℕ} {t : ℕ} → first_minimum ≤ length out₀ → Clearing out₀ out t → t < first_minimum → Clearing out₀ (set out t 0) (t + 1)
-clearing-next {out₀} {out} {t} room c h = record {
-  length-kept = length-set out t 0 ∙ c.length-kept;
-  behind = drop-set-lt first_minimum out t 0 h ∙ c.behind;
-  clear = λ u k. go u k (cmp u t);
-}
-  where
-    go : (u : ℕ) → u < t + 1 → Cmp u t → get_or (set out t 0) u 0 ≡ 0
-    go u k (below q) = get_or-set_other out t u 0 0 (omega arith) ∙ c.clear u q
-    go u k (equal q) = rw q (get_or-set_same out t 0 0 (omega (arith, c.length-kept)))
-    go u k (above q) = absurd (omega arith)
-
-pub clearing-end : {out₀ out : List ℕ} {t : ℕ} → Clearing out₀ out t → first_minimum ≤ t → Cleared out₀ out
-clearing-end c h = record { clear = λ u k. c.clear u (omega arith); behind = c.behind }
 
 -- ===== mark_path =====
 module _ {ar out₀ : List ℕ} {n : ℕ} (u : Coded ar out₀ n) where
@@ -194,94 +152,20 @@ module _ {out₀ out : List ℕ} (c : Cleared out₀ out) (l : length out ≡ le
       of : (t : ℕ) → t < first_minimum → 0 < get_or out' t 0 → (j : ℕ) × (j < n) × Memᴰ t (terms_of_code ar (get_or out₀ (first_minimum + j) 0))
       of t h w = let r = m.of t h w in (r.0, r.1, subst (λ (x : ℕ). Memᴰ t (terms_of_code ar x)) (same_word r.0) r.2)
 
--- ===== copy_marks =====
-
--- the marks before t are copied
-pub record Copying (marks tab₀ tab : List ℕ) (t : ℕ) : Type 0 where
-  pub length-kept : length tab ≡ length tab₀
-  pub most : t ≤ first_minimum
-  pub same : (v : ℕ) → v < t → get_or tab (first_minimum + v) 0 ≡ get_or marks v 0
-
-module _ {marks tab₀ : List ℕ} where
-  pub copying-start : Copying marks tab₀ tab₀ 0
-  copying-start = record { length-kept = refl; most = omega arith; same = λ v h. absurd (omega arith) }
-
-  pub copying-next : {tab : List ℕ} {t : ℕ} → first_minimum + first_minimum ≤ length tab₀ → Copying marks tab₀ tab t → t < first_minimum
-      → Copying marks tab₀ (set tab (first_minimum + t) (get_or marks t 0)) (t + 1)
-  copying-next {tab} {t} room c h = record {
-    length-kept = length-set tab (first_minimum + t) (get_or marks t 0) ∙ c.length-kept;
-    most = omega arith;
-    same = λ v k. go v k (cmp v t);
-  }
-    where
-      go : (v : ℕ) → v < t + 1 → Cmp v t → get_or (set tab (first_minimum + t) (get_or marks t 0)) (first_minimum + v) 0 ≡ get_or marks v 0
-      go v k (below q) = get_or-set_other tab (first_minimum + t) (first_minimum + v) (get_or marks t 0) 0 (omega arith) ∙ c.same v q
-      go v k (equal q) = rw q (get_or-set_same tab (first_minimum + t) (get_or marks t 0) 0 (omega (arith, c.length-kept)))
-      go v k (above q) = absurd (omega arith)
-
-  pub copying-end : {tab : List ℕ} {t : ℕ} → Copying marks tab₀ tab t → first_minimum ≤ t → (v : ℕ) → v < first_minimum → get_or tab (first_minimum + v) 0 ≡ get_or marks v 0
-  copying-end c h v k = c.same v (omega arith)
-
--- ===== keep_terms =====
-
--- the terms before t become themselves
-pub record Keeping (theta₀ theta : List ℕ) (t : ℕ) : Type 0 where
-  pub length-kept : length theta ≡ length theta₀
-  pub most : t ≤ first_minimum
-  pub same : (v : ℕ) → v < t → get_or theta v 0 ≡ v
-
-pub keeping_start : (theta : List ℕ) → Keeping theta theta 0
-keeping_start theta = record { length-kept = refl; most = omega arith; same = λ v h. absurd (omega arith) }
-
-pub keeping-next : {theta₀ theta : List ℕ} {t : ℕ} → first_minimum ≤ length theta₀ → Keeping theta₀ theta t → t < first_minimum → Keeping theta₀ (set theta t t) (t + 1)
-keeping-next {theta₀} {theta} {t} room c h = record { length-kept = length-set theta t t ∙ c.length-kept; most = omega arith; same = λ v k. go v k (cmp v t) }
-  where
-    go : (v : ℕ) → v < t + 1 → Cmp v t → get_or (set theta t t) v 0 ≡ v
-    go v k (below q) = get_or-set_other theta t v t 0 (omega arith) ∙ c.same v q
-    go v k (equal q) = rw q (get_or-set_same theta t t 0 (omega (arith, c.length-kept)))
-    go v k (above q) = absurd (omega arith)
-
-pub keeping-end : {theta₀ theta : List ℕ} {t : ℕ} → Keeping theta₀ theta t → first_minimum ≤ t → (v : ℕ) → v < first_minimum → get_or theta v 0 ≡ v
-keeping-end c h v k = c.same v (omega arith)
+-- ===== A run of words that was written from a on =====
+pub put_at : (a k : ℕ) (xs ys : List ℕ) (i : ℕ) → a ≤ length xs → i < length ys → get_or (put_mid a k xs ys) (a + i) 0 ≡ get_or ys i 0
+put_at a k xs ys i h l =
+    get_or-append_right (take a xs) (ys ++ post_of a k xs) a (a + i) 0 (length-take-le a xs h) (omega arith)
+    ∙ (let e : a + i - a ≡ i = omega arith in rw e (get_or-append ys (post_of a k xs) 0 i l))
 
 -- ===== unplace =====
 
 -- the terms before v, and the variables before first_variable + v, have no place
 pub record Unplacing (tab₀ tab : List ℕ) (v : ℕ) : Type 0 where
   pub length-kept : length tab ≡ length tab₀
-  pub most : v ≤ first_variable
   pub fixed : (u : ℕ) → u < v → get_or tab u 0 ≡ 0
   pub free : (u : ℕ) → u < v → get_or tab (first_variable + u) 0 ≡ late
   pub kept : (u : ℕ) → first_minimum ≤ u → get_or tab u 0 ≡ get_or tab₀ u 0
-
-pub unplacing-start : (tab : List ℕ) → Unplacing tab tab 0
-unplacing-start tab = record { length-kept = refl; most = omega arith; fixed = λ u h. absurd (omega arith); free = λ u h. absurd (omega arith); kept = λ u h. refl }
-
-pub unplacing-next : {tab₀ tab : List ℕ} {v : ℕ} → first_minimum + first_minimum ≤ length tab₀ → Unplacing tab₀ tab v → v < first_variable
-    → Unplacing tab₀ (set (set tab v 0) (first_variable + v) late) (v + 1)
-unplacing-next {tab₀} {tab} {v} room c h = record {
-  length-kept = length-set one (first_variable + v) late ∙ length-set tab v 0 ∙ c.length-kept;
-  most = omega arith;
-  fixed = λ u k. fixed u k (cmp u v);
-  free = λ u k. free u k (cmp u v);
-  kept = λ u k. get_or-set_other one (first_variable + v) u late 0 (omega arith) ∙ get_or-set_other tab v u 0 0 (omega arith) ∙ c.kept u k;
-}
-  where
-    one : List ℕ
-    one = set tab v 0
-
-    fixed : (u : ℕ) → u < v + 1 → Cmp u v → get_or (set one (first_variable + v) late) u 0 ≡ 0
-    fixed u k (below q) = get_or-set_other one (first_variable + v) u late 0 (omega arith) ∙ get_or-set_other tab v u 0 0 (omega arith) ∙ c.fixed u q
-    fixed u k (equal q) = get_or-set_other one (first_variable + v) u late 0 (omega arith) ∙ ap (λ (i : ℕ). get_or one i 0) q ∙ get_or-set_same tab v 0 0 (omega (arith, c.length-kept))
-    fixed u k (above q) = absurd (omega arith)
-
-    free : (u : ℕ) → u < v + 1 → Cmp u v → get_or (set one (first_variable + v) late) (first_variable + u) 0 ≡ late
-    free u k (below q) =
-        get_or-set_other one (first_variable + v) (first_variable + u) late 0 (omega arith) ∙ get_or-set_other tab v (first_variable + u) 0 0 (omega arith) ∙ c.free u q
-    free u k (equal q) =
-        ap (λ (i : ℕ). get_or (set one (first_variable + v) late) (first_variable + i) 0) q
-        ∙ get_or-set_same one (first_variable + v) late 0 (omega (arith, length-set tab v 0, c.length-kept))
-    free u k (above q) = absurd (omega arith)
 
 pub unplacing-end : {tab₀ tab : List ℕ} {v : ℕ} → first_minimum + first_minimum ≤ length tab₀ → Unplacing tab₀ tab v → first_variable ≤ v → Unplaced tab
 unplacing-end {tab₀} {tab} {v} room c h = record { room = omega (arith, c.length-kept); fixed = λ u k. c.fixed u (omega arith); free = free }

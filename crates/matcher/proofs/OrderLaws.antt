@@ -256,10 +256,10 @@ module _ {ord₀ : List ℕ} {k : ℕ} {ord seen : List ℕ} {e : ℕ} (p : Part
   pub parting-more : {b : Pick} → Best ord seen e b → Takable ord seen e b.at
   parting-more b = record { ranged = p.ranged; seen-to = p.seen-to; from = b.from; below = b.below }
 
-  pub parting-next : {ord' seen' : List ℕ} → e < length ord → Taken ord e ord' seen' → Parting ord₀ k ord' seen' (e + 1)
+  pub parting-next : {ord' seen' : List ℕ} → e < length ord₀ → Taken ord e ord' seen' → Parting ord₀ k ord' seen' (e + 1)
   parting-next h t = record {
     more = omega (arith, p.more);
-    most = omega (arith, p.reordered.length-same);
+    most = omega arith;
     ranged = reordered-range t.reordered p.ranged;
     reordered = reordered-after (omega (arith, p.more)) p.reordered t.reordered;
     seen-to = t.seen-to;
@@ -278,8 +278,10 @@ module _ {ord₀ : List ℕ} {k : ℕ} {ord seen : List ℕ} {e : ℕ} (p : Part
     pub parting-found : {b : Pick} → Best ord seen e b → strange ≤ b.rank → PartTaken ord₁ k e ord seen
     parting-found b h = parting-done (b.strangers h)
 
-    pub parting-end : length ord ≤ e → PartTaken ord₁ k e ord seen
-    parting-end h = parting-done (record { each = λ i a b. absurd (omega arith) })
+    pub parting-end : length ord₀ ≤ e → PartTaken ord₁ k (length ord) ord seen
+    parting-end h =
+        let q : e ≡ length ord = omega (arith, p.most, p.reordered.length-same) in
+        subst (λ (i : ℕ). PartTaken ord₁ k i ord seen) q (parting-done (record { each = λ i a b. absurd (omega arith) }))
 
 -- ===== match_parts =====
 

@@ -127,12 +127,7 @@ fn twice(t: u64, k: u64) -> u64
 fn is_nothing(way: Way) -> bool
     ensures { result ≡ is_nothing way }
 {
-    match way {
-        Way::Straight(_) => false,
-        Way::Turned(_) => false,
-        Way::Twice(_) => false,
-        Way::Nothing => true,
-    }
+    matches!(way, Way::Nothing)
 }
 
 // The term t, met at place m, is to become u: it is written where it comes first, else compared.
@@ -157,14 +152,12 @@ fn bind(tab: &[u64], theta: &mut [u64], m: u64, l: u64, way: Way) -> bool
     requires m_lt_late { m < late }
     ensures { BindPost tab.now theta.old m l way result theta.new }
 {
-    let mut k = 0;
-    while k < Label::PLACES {
+    for k in 0..Label::PLACES {
         let t = Label { packed: l }.place(k);
         let u = way_place(way, k);
         if !place(tab, theta, m + k, t as usize, u) {
             return false;
         }
-        k += 1;
     }
     true
 }
@@ -271,13 +264,11 @@ fn all_known(tab: &[u64], m: u64, l: u64) -> bool
     requires in_range { InRange first_minimum l }
     ensures { result ≡ all_known tab.now m l }
 {
-    let mut k = 0;
-    while k < Label::PLACES {
+    for k in 0..Label::PLACES {
         let t = Label { packed: l }.place(k);
         if tab[t as usize] > m {
             return false;
         }
-        k += 1;
     }
     true
 }
@@ -327,11 +318,9 @@ fn image(theta: &[u64], l: u64) -> u64
     ensures { (result ≡ image_label theta.now l) × (result < label_end) }
 {
     let mut n = Label { packed: l }.predicate();
-    let mut k = 0;
-    while k < Label::PLACES {
+    for k in 0..Label::PLACES {
         let t = Label { packed: l }.place(k);
         n = n * Term::BASE + theta[t as usize];
-        k += 1;
     }
     n
 }
@@ -368,10 +357,8 @@ fn variables_of(l: u64) -> u64
     ensures { Variables l most_places result }
 {
     let mut mask = 0;
-    let mut k = 0;
-    while k < Label::PLACES {
+    for k in 0..Label::PLACES {
         mask = mask | one(Label { packed: l }.place(k) as usize);
-        k += 1;
     }
     mask
 }
@@ -382,17 +369,13 @@ fn slot(theta: &[u64], mask: u64, k: usize) -> usize
     ensures { result < store_rows }
 {
     let mut h = (k % ROWS) as u64 * HASH_FACTOR % HASHES;
-    let mut i = 0;
-    while i < VARIABLES {
+    for i in 0..VARIABLES {
         let rest = mask >> i as u64;
         if rest == 0 {
             return (h / HASH_STEP) as usize;
         }
         if rest % 2 == 1 {
             h = (h + theta[FIRST_VARIABLE + i] % Term::BASE + 1) * HASH_FACTOR % HASHES;
-            i += 1;
-        } else {
-            i += 1;
         }
     }
     (h / HASH_STEP) as usize
@@ -404,15 +387,11 @@ fn agrees(theta: &[u64], store: &[u64], at: usize, mask: u64) -> bool
     requires variable_count_in_bounds { at + variable_count ≤ length store.now }
     ensures { result ≡ true → Same theta.now store.now at mask variable_count }
 {
-    let mut i = 0;
-    while i < VARIABLES {
+    for i in 0..VARIABLES {
         if has(mask, i) {
             if theta[FIRST_VARIABLE + i] != store[at + i] {
                 return false;
             }
-            i += 1;
-        } else {
-            i += 1;
         }
     }
     true
@@ -461,11 +440,7 @@ fn copy(theta: &[u64], store: &mut [u64], at: usize)
     requires variable_count_in_bounds { at + variable_count ≤ length store.old }
     ensures { Copied theta.now store.old store.new at variable_count }
 {
-    let mut i = 0;
-    while i < VARIABLES {
-        store[at + i] = theta[FIRST_VARIABLE + i];
-        i += 1;
-    }
+    store[at..at + VARIABLES].copy_from_slice(&theta[FIRST_VARIABLE..FIRST_VARIABLE + VARIABLES]);
 }
 
 // Writes a failure on the mask to a row.
@@ -500,22 +475,14 @@ fn remember(theta: &[u64], store: &mut [u64], mask: u64, k: usize)
 fn is_found(answer: Answer) -> bool
     ensures { result ≡ is_found answer }
 {
-    match answer {
-        Answer::Found => true,
-        Answer::Failed(_) => false,
-        Answer::Weary => false,
-    }
+    matches!(answer, Answer::Found)
 }
 
 // Whether the search was given up.
 fn is_weary(answer: Answer) -> bool
     ensures { result ≡ is_weary answer }
 {
-    match answer {
-        Answer::Found => false,
-        Answer::Failed(_) => false,
-        Answer::Weary => true,
-    }
+    matches!(answer, Answer::Weary)
 }
 
 // The variables that a failure depends on.
@@ -571,17 +538,13 @@ fn solve(
     let vars = variables_of(x / 2);
     let total = way_count(into, x);
     let mut mask = vars & bound;
-    let mut j = 0;
-    while j < total {
+    for j in 0..total {
         if attempt(into, tab, theta, k as u64 * Label::PLACES, x, j) {
             let answer = solve(ord, into, tab, theta, store, k + 1, bound | vars);
             if is_handed_up(answer, bound) {
                 return answer;
             }
             mask = mask | (mask_of(answer) & bound);
-            j += 1;
-        } else {
-            j += 1;
         }
     }
     remember(theta, store, mask, k);
@@ -629,14 +592,10 @@ fn first_places(ord: &[u64], n: usize, tab: &mut [u64])
     requires unplaced { Unplaced tab.old }
     ensures { Placing ord.now tab.old tab.new (n * most_places) }
 {
-    let mut m = 0;
-    while m < n * PLACES {
+    for m in 0..n * PLACES {
         let t = term_at(ord, m);
         if tab[t] > m as u64 + 1 {
             tab[t] = m as u64 + 1;
-            m += 1;
-        } else {
-            m += 1;
         }
     }
 }
@@ -648,11 +607,9 @@ fn mark_places(marks: &mut [u64], l: u64, n: u64)
     requires n_le_most_places { n ≤ most_places }
     ensures { marks.new ≡ marked (along (place_at l) n) marks.old }
 {
-    let mut k = 0;
-    while k < n {
+    for k in 0..n {
         let t = Label { packed: l }.place(k);
         marks[t as usize] = 1;
-        k += 1;
     }
 }
 
@@ -670,11 +627,7 @@ fn clear_marks(out: &mut [u64])
     requires { first_minimum ≤ length out.old }
     ensures { Cleared out.old out.new }
 {
-    let mut t = 0;
-    while t < TERMS {
-        out[t] = 0;
-        t += 1;
-    }
+    out[..TERMS].fill(0);
 }
 
 // Marks the terms of the n literals behind marks that are clear.
@@ -683,11 +636,9 @@ fn mark_path(arities: &[u64], out: &mut [u64], n: usize)
     requires by_index { (t : ℕ) → t < first_minimum → get_or out.old t 0 ≡ 0 }
     ensures { Marking arities.now out.old out.new n }
 {
-    let mut i = 0;
-    while i < n {
+    for i in 0..n {
         let x = out[TERMS + i];
         mark_literal(arities, out, x);
-        i += 1;
     }
 }
 
@@ -706,11 +657,7 @@ fn copy_marks(marks: &[u64], tab: &mut [u64])
     requires first_minimum_in_bounds_2 { first_minimum + first_minimum ≤ length tab.old }
     ensures { (t : ℕ) → t < first_minimum → get_or tab.new (first_minimum + t) 0 ≡ get_or marks.now t 0 }
 {
-    let mut t = 0;
-    while t < TERMS {
-        tab[TERMS + t] = marks[t];
-        t += 1;
-    }
+    tab[TERMS..TERMS + TERMS].copy_from_slice(&marks[..TERMS]);
 }
 
 // Each term becomes itself.
@@ -718,10 +665,8 @@ fn keep_terms(theta: &mut [u64])
     requires { first_minimum ≤ length theta.old }
     ensures { (v : ℕ) → v < first_minimum → get_or theta.new v 0 ≡ v }
 {
-    let mut v = 0;
-    while v < TERMS {
+    for v in 0..TERMS {
         theta[v] = v as u64;
-        v += 1;
     }
 }
 
@@ -731,11 +676,9 @@ fn unplace(tab: &mut [u64])
     ensures unplaced { Unplaced tab.new }
     ensures by_index { (v : ℕ) → first_minimum ≤ v → get_or tab.new v 0 ≡ get_or tab.old v 0 }
 {
-    let mut v = 0;
-    while v < FIRST_VARIABLE {
+    for v in 0..FIRST_VARIABLE {
         tab[v] = 0;
         tab[FIRST_VARIABLE + v] = LATE;
-        v += 1;
     }
 }
 
@@ -773,13 +716,11 @@ fn shares(seen: &[u64], x: u64) -> bool
     requires in_range { InRange first_minimum (x / 2) }
     ensures { result ≡ shares seen.now x }
 {
-    let mut k = 0;
-    while k < Label::PLACES {
+    for k in 0..Label::PLACES {
         let t = Label { packed: x / 2 }.place(k);
         if is_seen(seen, t as usize) {
             return true;
         }
-        k += 1;
     }
     false
 }
@@ -805,11 +746,9 @@ fn new_places(seen: &[u64], x: u64) -> u64
     ensures { result ≤ most_places }
 {
     let mut n = 0;
-    let mut k = 0;
-    while k < Label::PLACES {
+    for k in 0..Label::PLACES {
         let t = Label { packed: x / 2 }.place(k);
         n = n + is_new(seen, t as usize);
-        k += 1;
     }
     n
 }
@@ -841,10 +780,9 @@ fn best(ord: &[u64], seen: &[u64], k: usize) -> Pick
     requires all_in_range { AllInRange first_minimum ord.now }
     ensures { Best ord.now seen.now k result }
 {
-    let mut i = k;
     let mut at = k;
     let mut low = WORST;
-    while i < ord.len() {
+    for i in k..ord.len() {
         let r = rank(seen, ord[i]);
         if r == 0 {
             return Pick { at: i, rank: 0 };
@@ -852,9 +790,6 @@ fn best(ord: &[u64], seen: &[u64], k: usize) -> Pick
         if r < low {
             low = r;
             at = i;
-            i += 1;
-        } else {
-            i += 1;
         }
     }
     Pick { at: at, rank: low }
@@ -879,16 +814,14 @@ fn next_part(ord: &mut [u64], seen: &mut [u64], k: usize) -> usize
 {
     let first = best(ord, seen, k);
     take_literal(ord, seen, k, first.at);
-    let mut e = k + 1;
-    while e < ord.len() {
+    for e in k + 1..ord.len() {
         let b = best(ord, seen, e);
         if b.rank >= STRANGE {
             return e;
         }
         take_literal(ord, seen, e, b.at);
-        e += 1;
     }
-    e
+    ord.len()
 }
 
 // Whether a replacement takes the literals of ord to those of the first path, or to t = t true: each part is searched by itself.
@@ -930,14 +863,10 @@ fn mark_kinds(into: &[u64], kinds: &mut [u64])
     requires { kind_count ≤ length kinds.old }
     ensures { Kinds into.now kinds.new (length into.now) }
 {
-    let mut j = TERMS;
-    while j < into.len() {
+    for j in TERMS..into.len() {
         let k = kind(into[j]);
         if k < KINDS {
             kinds[k] = 1;
-            j += 1;
-        } else {
-            j += 1;
         }
     }
 }
@@ -962,12 +891,10 @@ fn have_ways(ord: &[u64], kinds: &[u64]) -> bool
     requires { kind_count ≤ length kinds.now }
     ensures { WaysPost ord.now kinds.now result }
 {
-    let mut i = 0;
-    while i < ord.len() {
-        if !has_way(kinds, ord[i]) {
+    for x in ord {
+        if !has_way(kinds, *x) {
             return false;
         }
-        i += 1;
     }
     true
 }

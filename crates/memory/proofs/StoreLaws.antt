@@ -2,12 +2,9 @@
 use mathlib.Core.Path.{◌≡◌, sym, ap, ◌∙◌}
 use mathlib.Core.Bool.{Bool, cond}
 use mathlib.Core.List.{List, ◌++◌}
-use Prim.Native.Nat.{ℕ, ◌+◌, ◌≤◌, ◌<◌}
-use native.Mathlib.Omega.{arith}
+use Prim.Native.Nat.{ℕ}
 use borrow.Author.Tests.{eq-eqb, ne_eqb}
-use lib.ListN.{length, get_or, set, drop}
-use lib.Seq.{take-length}
-use Rattle.write.proofs.WriteLaws.{Copying, copy-on, copy-end}
+use lib.ListN.{get_or, drop}
 use Rattle.session.specs.declared.Part.{Part}
 use Rattle.session.specs.declared.Part.TheVariants.{Model, Run}
 use Rattle.memory.specs.declared.Numbers.{Numbers}
@@ -18,13 +15,6 @@ part-model v e = ap (λ (b : Bool). cond b Model Run) (sym (eq-eqb v 0 e))
 
 pub part-run : (v : ℕ) → (v ≡ 0 → ⊥) → Run ≡ part_of v
 part-run v f = ap (λ (b : Bool). cond b Model Run) (sym (ne_eqb v 0 f))
-
--- all words of a list are copied
-pub front-on : {s out₀ out : List ℕ} {i : ℕ} → Copying s out₀ out (length s) i → i < length s → Copying s out₀ (set out i (get_or s i 0)) (length s) (i + 1)
-front-on g h = copy-on g h (omega arith)
-
-pub front-end : {s out₀ out : List ℕ} {i : ℕ} → Copying s out₀ out (length s) i → length s ≤ i → out ≡ s ++ drop (length s) out₀
-front-end {s} {out₀} g h = copy-end g h ∙ ap (λ (z : List ℕ). z ++ drop (length s) out₀) (take-length s)
 
 pub stored : (n : Numbers) (lines : ℕ) (met : Bool) (s : List ℕ) {part total discount reward written : ℕ} {out : List ℕ}
     → part ≡ part_word n.part → total ≡ flag_word n.total → discount ≡ flag_word n.discount → reward ≡ flag_word n.reward

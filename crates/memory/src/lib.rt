@@ -85,20 +85,7 @@ pub fn opening() -> Numbers
 pub fn with_state(n: Numbers, live: Live) -> Numbers
     ensures { result ≡ with_state n live }
 {
-    let part = n.part;
-    let counts = n.counts;
-    let head = n.head;
-    let held = n.held;
-    Numbers {
-        part: part,
-        total: n.total,
-        discount: n.discount,
-        reward: n.reward,
-        counts: counts,
-        head: head,
-        live: live,
-        held: held,
-    }
+    Numbers { live, ..n }
 }
 
 // The words that a session's numbers, its answered lines and whether one of them had bytes take.
@@ -128,10 +115,7 @@ fn part_of(word: u64) -> Part
 fn flag_word(flag: bool) -> u64
     ensures { result ≡ flag_word flag }
 {
-    if flag {
-        return 1;
-    }
-    0
+    u64::from(flag)
 }
 
 // Writes all words of a list in front of others.
@@ -139,11 +123,7 @@ fn put_front(words: &mut [u64], list: &[u64])
     requires { length list.now ≤ length words.old }
     ensures { words.new ≡ list.now ++ drop (length list.now) words.old }
 {
-    let mut i = 0;
-    while i < list.len() {
-        words[i] = list[i];
-        i += 1;
-    }
+    words[..list.len()].copy_from_slice(list);
 }
 
 // Stores a session's numbers, how many lines were answered, and whether one of them had bytes; the words behind stay.
@@ -151,21 +131,15 @@ pub fn store(words: &mut [u64], n: Numbers, lines: u64, met: bool)
     requires { number_words ≤ length words.old }
     ensures { words.new ≡ saved_words n lines met ++ drop number_words words.old }
 {
-    let part = n.part;
-    let part = part_word(part);
-    let total = flag_word(n.total);
-    let discount = flag_word(n.discount);
-    let reward = flag_word(n.reward);
     let counts = n.counts;
     let head = n.head;
     let live = n.live;
     let held = n.held;
-    let met = flag_word(met);
     let list = [
-        part,
-        total,
-        discount,
-        reward,
+        part_word(n.part),
+        flag_word(n.total),
+        flag_word(n.discount),
+        flag_word(n.reward),
         counts.constants as u64,
         counts.predicates as u64,
         counts.actions as u64,
@@ -187,7 +161,7 @@ pub fn store(words: &mut [u64], n: Numbers, lines: u64, met: bool)
         held.steps,
         held.power,
         lines,
-        met,
+        flag_word(met),
     ];
     put_front(words, &list);
 }

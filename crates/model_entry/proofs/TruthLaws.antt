@@ -1,6 +1,6 @@
 -- Laws of the truth diagrams of the last variant: whether there is one, and one more.
 use mathlib.Core.Path.{◌≡◌, refl, sym, ap, ap₂, subst, ◌∙◌, fun_ext}
-use mathlib.Core.Bool.{Bool, true, false, cond}
+use mathlib.Core.Bool.{Bool, true, false, not, cond}
 use mathlib.Core.List.{List, [], ◌∷◌, ◌++◌}
 use mathlib.Core.Option.{some, none}
 use Prim.Native.Nat.{ℕ, suc, ◌+◌, ◌*◌, ◌-◌, ◌≤◌, ◌<◌}
@@ -75,12 +75,12 @@ module _ {t : List ℕ} {h : Head} {p : ℕ} (r : TruthRoom t h p) where
   unfolding model_of
   now-here ar l = now-is l t h p (h.actions - 1) (variants_of t (h.actions - 1) - 1) (omega (arith, r.some)) (omega (arith, r.has))
 
-  pub has-none : {i : ℕ} → TruthPlaced t h p i → get_or t (i + 1) 0 ≡ 0 → HasTruth t h p false
+  has-none : {i : ℕ} → TruthPlaced t h p i → get_or t (i + 1) 0 ≡ 0 → HasTruth t h p false
   has-none {i} e z = record {
     answer = λ ar l. sym (ap is_some (now-here ar l ∙ truth-none t (last_place t h) p l (λ k. ap (λ (x : ℕ). get_or t (x + 1) 0) (sym e.place) ∙ z)));
   }
 
-  pub has_one : {i : ℕ} → TruthPlaced t h p i → (get_or t (i + 1) 0 ≡ 0 → ⊥) → HasTruth t h p true
+  has_one : {i : ℕ} → TruthPlaced t h p i → (get_or t (i + 1) 0 ≡ 0 → ⊥) → HasTruth t h p true
   has_one {i} e z = record {
     answer = λ ar l.
         let n : get_or t (truth_place (last_place t h) p + 1) 0 ≡ 0 → ⊥ = λ y. z (ap (λ (x : ℕ). get_or t (x + 1) 0) e.place ∙ y) in
@@ -89,6 +89,13 @@ module _ {t : List ℕ} {h : Head} {p : ℕ} (r : TruthRoom t h p) where
         ∙ truth-here t (last_place t h) p l r.declared
         ∙ ap (λ (b : Bool). cond b none (some (diagram_of (weight_words l t (truth_place (last_place t h) p))))) (ne_eqb (get_or t (truth_place (last_place t h) p + 1) 0) 0 n)));
   }
+
+  pub has-truth : {i : ℕ} → TruthPlaced t h p i → HasTruth t h p (not (eqb (get_or t (i + 1) 0) 0))
+  has-truth {i} e = go (flag (eqb (get_or t (i + 1) 0) 0))
+    where
+      go : Flag (eqb (get_or t (i + 1) 0) 0) → HasTruth t h p (not (eqb (get_or t (i + 1) 0) 0))
+      go (is_true z) = rw z (has-none e (eqb-true (get_or t (i + 1) 0) 0 z))
+      go (is_false z) = rw z (has_one e (eqb-false (get_or t (i + 1) 0) 0 z))
 
   pub last-few : variants_of t (h.actions - 1) ≤ most_variants
   last-few = (r.spanned.actions (h.actions - 1) (omega (arith, r.some))).few

@@ -3,6 +3,9 @@ use mathlib.Core.Path.{◌≡◌, refl, sym, ap, ap₂, subst, ◌∙◌, fun_ex
 use mathlib.Core.List.{List, [], ◌∷◌, ◌++◌}
 use Prim.Native.Nat.{ℕ, suc, ◌+◌, ◌*◌, ◌-◌, ◌≤◌, ◌<◌}
 use native.Mathlib.Omega.{arith}
+use borrow.Author.Rules.{rules}
+use borrow.Rule.Slice.PartMut.{put_mid}
+use Rattle.std.proofs.lemmas.List.{places}
 use lib.ListN.{length, get_or, set, take, length-set}
 use lib.Seq.{get_or-set_same, get_or-set_other, paste}
 use Rattle.names.specs.Many.{many}
@@ -24,23 +27,15 @@ use Rattle.model_entry.proofs.AddLaws.{snoc, below-action, Appended, appended}
 
 -- ===== Clearing =====
 
-pub clear-start : (s : List ℕ) (i : ℕ) → Cleared s i 0 s
-clear-start s i = record { size = refl; before = λ j h. refl; zeros = λ j x y. absurd (omega arith) }
-
-pub clear_room : {s t : List ℕ} {i k : ℕ} → Cleared s i k t → k < span_words → i + span_words ≤ length s → i + k < length t
-clear_room c h l = omega (arith, c.size)
-
-pub clear-on : {s t : List ℕ} {i k : ℕ} → Cleared s i k t → k < span_words → i + span_words ≤ length s → Cleared s i (k + 1) (set t (i + k) 0)
-clear-on {s} {t} {i} {k} c h l = record {
-  size = length-set t (i + k) 0 ∙ c.size;
-  before = λ j q. get_or-set_other t (i + k) j 0 0 (λ e. omega arith) ∙ c.before j q;
-  zeros = λ j x y. by-low (get_or (set t (i + k) 0) j 0 ≡ 0) (i + k) j
-      (λ q. get_or-set_other t (i + k) j 0 0 (λ e. omega arith) ∙ c.zeros j x q)
-      (λ q. let e : j ≡ i + k = omega arith in ap (λ (m : ℕ). get_or (set t (i + k) 0) m 0) e ∙ get_or-set_same t (i + k) 0 0 (omega (arith, c.size)));
+pub words-cleared : (s m : List ℕ) (i k : ℕ) → i + span_words ≤ length s → k ≡ span_words → length m ≡ k → ((j : ℕ) → j < k → get_or m j 0 ≡ 0) → Cleared s i span_words (put_mid i k s m)
+words-cleared s m i k h e f z = record {
+  size = search (rules, places);
+  before = λ j l. search (rules, places);
+  zeros = λ j x y.
+      let p : j ≡ i + (j - i) = omega arith in
+      let q : get_or (put_mid i k s m) (i + (j - i)) 0 ≡ get_or m (j - i) 0 = search (rules, places) in
+      ap (λ (n : ℕ). get_or (put_mid i k s m) n 0) p ∙ q ∙ z (j - i) (omega arith);
 }
-
-pub clear-end : {s t : List ℕ} {i k : ℕ} → Cleared s i k t → k ≤ span_words → span_words ≤ k → Cleared s i span_words t
-clear-end {s} {t} {i} {k} c h l = let e : k ≡ span_words = omega arith in subst (λ (x : ℕ). Cleared s i x t) e c
 
 -- ===== The table =====
 

@@ -1,5 +1,5 @@
 -- Laws of the variants of all actions, one action's behind another's: how many there are before an action, and where their names stand (document 02, L10).
-use Rattle.std.specs.Prelude.{◌≡◌, refl, List, [], ◌∷◌, ◌++◌, ℕ, zero, suc, ◌+◌, ◌*◌, ◌-◌, ◌≤◌, ◌<◌, length, get_or, take, drop}
+use Rattle.std.specs.Prelude.{◌≡◌, refl, List, [], ◌∷◌, ◌++◌, ℕ, zero, suc, ◌+◌, ◌*◌, ◌≤◌, ◌<◌, length, get_or, take, drop}
 use Rattle.std.proofs.Common.{sym, ap, ap₂, subst, ◌∙◌, append-nil, append_assoc, arith, length-drop, length-take-le, drop-drop, get_or-take, get_or-drop, ext_get_or}
 use Rattle.words.specs.declared.Key.{Key}
 use Rattle.names.specs.Keys.{key_at, keys_at}

@@ -21,11 +21,7 @@ fn append(listings: &mut [u64], start: usize, out: &[u64], rows: usize)
     ensures { listings.new ≡ paste listings.old start out.now (rows * 3) }
 {
     let n = rows * 3;
-    let mut i = 0;
-    while i < n {
-        listings[start + i] = out[i];
-        i += 1;
-    }
+    listings[start..start + n].copy_from_slice(&out[..n]);
 }
 
 // The variants of the first a actions.
@@ -34,10 +30,8 @@ pub fn variants_before(table: &[u64], a: usize) -> usize
     ensures { result ≡ variants_before table.now a }
 {
     let mut n = 0;
-    let mut i = 0;
-    while i < a {
+    for i in 0..a {
         n += table[i * model::ACTION_WORDS + 1] as usize;
-        i += 1;
     }
     n
 }
@@ -51,13 +45,8 @@ pub fn add_action(table: &mut [u64], head: Head, count: u64) -> Head
     table[a * model::ACTION_WORDS] = count;
     table[a * model::ACTION_WORDS + 1] = 0;
     Head {
-        total: head.total,
-        numerator: head.numerator,
-        denominator: head.denominator,
-        reward_start: head.reward_start,
-        reward_words: head.reward_words,
         actions: a + 1,
-        words: head.words,
+        ..head
     }
 }
 
@@ -70,13 +59,10 @@ pub fn add_reward(listings: &mut [u64], head: Head, out: &[u64], rows: usize) ->
     append(listings, start, out, rows);
     let n = rows * 3;
     Head {
-        total: head.total,
-        numerator: head.numerator,
-        denominator: head.denominator,
         reward_start: start,
         reward_words: n,
-        actions: head.actions,
         words: start + n,
+        ..head
     }
 }
 
@@ -85,11 +71,7 @@ fn clear(table: &mut [u64], first: usize)
     requires { first + span_words ≤ length table.old }
     ensures { Cleared table.old first span_words table.new }
 {
-    let mut k = 0;
-    while k < SPAN_WORDS {
-        table[first + k] = 0;
-        k += 1;
-    }
+    table[first..first + SPAN_WORDS].fill(0);
 }
 
 // One variant more of the action a: its weight has n words from the word `start` of the listings on, and it has no truth diagram.
@@ -123,13 +105,8 @@ pub fn add_variant(
     let n = rows * 3;
     open_variant(table, head.actions - 1, start, n);
     Head {
-        total: head.total,
-        numerator: head.numerator,
-        denominator: head.denominator,
-        reward_start: head.reward_start,
-        reward_words: head.reward_words,
-        actions: head.actions,
         words: start + n,
+        ..head
     }
 }
 
@@ -148,11 +125,7 @@ pub fn has_truth(table: &[u64], head: Head, p: usize) -> bool
     requires { TruthRoom table.now head p }
     ensures { HasTruth table.now head p result }
 {
-    let place = truth_place(table, head, p);
-    if table[place + 1] == 0 {
-        return false;
-    }
-    true
+    table[truth_place(table, head, p) + 1] != 0
 }
 
 // (becomes (p ?a ..) DIAGRAM): the result buffer's first rows are the truth diagram of the predicate p, of the last variant of the last action.
@@ -176,12 +149,7 @@ pub fn add_truth(
     table[at] = start as u64;
     table[at + 1] = n as u64;
     Head {
-        total: head.total,
-        numerator: head.numerator,
-        denominator: head.denominator,
-        reward_start: head.reward_start,
-        reward_words: head.reward_words,
-        actions: head.actions,
         words: start + n,
+        ..head
     }
 }

@@ -1,23 +1,13 @@
--- What the code of tables of names needs to know: the test of two keys, and a search that has passed some keys.
+-- What the search in a table of names needs to know: the keys that it has passed.
 use mathlib.Core.Bool.{Bool, true, false}
 use mathlib.Core.Path.{◌≡◌, sym, ◌∙◌}
 use mathlib.Core.List.{List}
 use Prim.Native.Nat.{ℕ, ◌+◌, ◌<◌, ◌≤◌}
 use native.Mathlib.Omega.{arith}
 use borrow.Author.Count.{below_more}
-use borrow.Author.Tests.{eq-eqb, ne_eqb}
-use lib.Dec.{eqb}
 use Rattle.words.specs.declared.Key.{Key}
 use Rattle.names.specs.Keys.{same_key, key_at, keys_at, place_of}
 use Rattle.names.specs.KeyLaws.{same_true, same_false, place_at, place_none}
-
-pub same_first : (x y : Key) → (x.a ≡ y.a → ⊥) → false ≡ same_key x y
-unfolding same_key
-same_first x y f = rw (ne_eqb x.a y.a f)
-
-pub same_second : (x y : Key) → x.a ≡ y.a → eqb x.b y.b ≡ same_key x y
-unfolding same_key
-same_second x y p = rw (eq-eqb x.a y.a p)
 
 -- the key is none of the first i
 pub record Passed (s : List ℕ) (base n : ℕ) (k : Key) (i : ℕ) : Type 0 where

@@ -25,16 +25,15 @@ pub const VARIANTS: usize = 120;
 pub const WORDS: usize = 248;
 
 // Whether two keys are equal.
+#[tactic(auto, unfolding(crate::specs::Keys::same_key))]
 pub fn same(x: Key, y: Key) -> bool
     ensures { result ≡ same_key x y }
 {
-    if x.a != y.a {
-        return false;
-    }
-    x.b == y.b
+    x == y
 }
 
 // Key i of the table that begins at base.
+#[tactic(auto, unfolding(crate::specs::Keys::key_at))]
 pub fn key_at(s: &[u64], base: usize, i: usize) -> Key
     requires { base + i * 2 + 2 ≤ length s.now }
     ensures { result ≡ key_at s.now base i }
@@ -50,17 +49,16 @@ pub fn find(s: &[u64], base: usize, n: usize, key: Key) -> usize
     requires { base + n * 2 ≤ length s.now }
     ensures { result ≡ place_of key (keys_at s.now base n) }
 {
-    let mut i = 0;
-    while i < n {
+    for i in 0..n {
         if same(key_at(s, base, i), key) {
             return i;
         }
-        i += 1;
     }
     n
 }
 
 // Writes a key at the word `at`.
+#[tactic(auto, unfolding(crate::specs::Inner::put_key))]
 pub fn put(s: &mut [u64], at: usize, key: Key)
     requires { at + 2 ≤ length s.old }
     ensures { s.new ≡ put_key s.old at key }

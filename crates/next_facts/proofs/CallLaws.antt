@@ -25,8 +25,6 @@ use Rattle.truths.specs.TruthChecks.{has_truth}
 use Rattle.model.specs.Layout.{spans_at, variant_words}
 use Rattle.state.specs.Lent.{fact_count}
 use Rattle.replay.specs.Replay.{facts_of}
-use Rattle.next_facts.specs.declared.Facts.{Facts}
-use Rattle.next_facts.specs.declared.Facts.TheVariants.{Rows, Many}
 use Rattle.next_facts.specs.Reach.{free}
 use Rattle.next_facts.specs.Filling.{first_word, first_env, Begun, own_terms, own_place, own_label, own_words, under, rows_by, words_at, all_rows, Filled, FilledBy, Fillable, Walkable, Askable}
 use Rattle.next_facts.specs.FillingLaws.{gather-up_to, gather-most, filled_none, filled-few, filled-then, filled_more}
@@ -35,6 +33,7 @@ use Rattle.next_facts.specs.Keeping.{Ordered, kept_rows, Standing}
 use Rattle.next_facts.specs.KeepingLaws.{kept-own}
 use Rattle.next_facts.specs.NextCall.{after_at, Moving, NextFacts}
 use Rattle.next_facts.specs.NextLaws.{next-end}
+use Rattle.std.specs.Prelude.{None, Option, Some}
 
 -- `own_place`
 pub place-own : (k i : ℕ) → i < k → first_variable + i ≡ own_place k i
@@ -98,7 +97,7 @@ module _ {ar ws marks out : List ℕ} {p count : ℕ} (s : Walkable ar ws marks 
     room = s.room;
   }
 
-pub walk-filled : (ar facts ws : List ℕ) (p n : ℕ) {constants os env env' out out' : List ℕ} {count : ℕ} {r : Facts} → Begun constants os (get_or ar p 0) env term_end
+pub walk-filled : (ar facts ws : List ℕ) (p n : ℕ) {constants os env env' out out' : List ℕ} {count : ℕ} {r : Option ℕ} → Begun constants os (get_or ar p 0) env term_end
     → FilledBy (under ar facts ws p (get_or ar p 0) n (get_or ar p 0) env) count env out r env' out' → Filled (rows_by ar facts ws p n constants os) count out r out'
 unfolding rows_by
 walk-filled ar facts ws p n {constants} {os} {env} {env'} {out} {out'} {count} {r} b f =
@@ -123,7 +122,7 @@ module _ {ar listings spans marks out : List ℕ} {p count : ℕ} (s : Askable a
       room = s.room;
     }
 
-    pub some-filled : (facts : List ℕ) (n : ℕ) (constants os : List ℕ) {ws out' : List ℕ} {r : Facts} → b ≡ true → ws ≡ truth_words listings spans p
+    pub some-filled : (facts : List ℕ) (n : ℕ) (constants os : List ℕ) {ws out' : List ℕ} {r : Option ℕ} → b ≡ true → ws ≡ truth_words listings spans p
         → Filled (rows_by ar facts ws p n constants os) count out r out' → Filled (rows_by ar facts (words_at ar listings spans p) p n constants os) count out r out'
     unfolding words_at
     some-filled facts n constants os {ws} {out'} {r} e z f =
@@ -142,7 +141,7 @@ module _ {ar listings spans marks out : List ℕ} {p count : ℕ} (s : Askable a
       room = s.room;
     }
 
-    pub own-filled : (facts : List ℕ) (n : ℕ) (constants os : List ℕ) {out' : List ℕ} {r : Facts} {l : ℕ} → b ≡ false → l ≡ own_label p (get_or ar p 0)
+    pub own-filled : (facts : List ℕ) (n : ℕ) (constants os : List ℕ) {out' : List ℕ} {r : Option ℕ} {l : ℕ} → b ≡ false → l ≡ own_label p (get_or ar p 0)
         → Filled (rows_by ar facts (leaf_mark ∷ 1 ∷ 0 ∷ leaf_mark ∷ 0 ∷ 0 ∷ l ∷ 0 ∷ 1 ∷ []) p n constants os) count out r out'
         → Filled (rows_by ar facts (words_at ar listings spans p) p n constants os) count out r out'
     unfolding words_at
@@ -151,7 +150,7 @@ module _ {ar listings spans marks out : List ℕ} {p count : ℕ} (s : Askable a
         (own_is z ∙ sym (ap (λ (x : Bool). cond x (truth_words listings spans p) (own_words p (get_or ar p 0))) (sym q ∙ e))) f
 
 pub kept-filled : {ar listings spans marks out facts constants os : List ℕ} {p n count : ℕ} {b ordered : Bool} → Askable ar listings spans marks out p count
-    → Standing ar facts constants os n ordered → b ≡ has_truth spans p → b ≡ false → ordered ≡ true → {r : Facts} {out' : List ℕ}
+    → Standing ar facts constants os n ordered → b ≡ has_truth spans p → b ≡ false → ordered ≡ true → {r : Option ℕ} {out' : List ℕ}
     → Filled (kept_rows facts p (get_or ar p 0) (fact_count facts)) count out r out' → Filled (rows_by ar facts (words_at ar listings spans p) p n constants os) count out r out'
 unfolding words_at
 kept-filled {ar} {listings} {spans} {marks} {out} {facts} {constants} {os} {p} {n} {count} s t q e o {r} {out'} f =
@@ -165,7 +164,7 @@ pub record Passing (ar listings spans facts constants os marks₀ marks out₀ o
   pub most : q ≤ pred predicate_count
   pub marks-same : length marks ≡ length marks₀
   pub out-same : length out ≡ length out₀
-  pub filled : Filled (all_rows ar facts listings spans n constants os q) 0 out₀ (Rows count) out
+  pub filled : Filled (all_rows ar facts listings spans n constants os q) 0 out₀ (Some count) out
 
 pub passing-start : {ar listings spans marks out : List ℕ} (facts constants os : List ℕ) (n : ℕ) → Askable ar listings spans marks out 1 0
     → Passing ar listings spans facts constants os marks marks out out n 0 0
@@ -184,18 +183,18 @@ module _ {ar listings spans facts constants os marks₀ marks out₀ out : List 
     room = record { words = omega (arith, s.out-same, s.asked.room.words); few = filled-few s.filled };
   }
 
-  module _ {r : Facts} {out' : List ℕ} (f : Filled (rows_by ar facts (words_at ar listings spans (q + 1)) (q + 1) n constants os) count out r out') where
+  module _ {r : Option ℕ} {out' : List ℕ} (f : Filled (rows_by ar facts (words_at ar listings spans (q + 1)) (q + 1) n constants os) count out r out') where
     passed : Filled (all_rows ar facts listings spans n constants os (q + 1)) 0 out₀ r out'
     unfolding all_rows
     passed = subst (λ (l : List (List ℕ)). Filled l 0 out₀ r out')
         (sym (gather-up_to (λ p. rows_by ar facts (words_at ar listings spans (p + 1)) (p + 1) n constants os) q)) (filled-then s.filled f)
 
-    pub passing-many : r ≡ Many → Filled (all_rows ar facts listings spans n constants os 31) 0 out₀ Many out'
+    pub passing-many : r ≡ None → Filled (all_rows ar facts listings spans n constants os 31) 0 out₀ None out'
     unfolding all_rows
-    passing-many e = filled_more (subst (λ (x : Facts). Filled (all_rows ar facts listings spans n constants os (q + 1)) 0 out₀ x out') e passed)
+    passing-many e = filled_more (subst (λ (x : Option ℕ). Filled (all_rows ar facts listings spans n constants os (q + 1)) 0 out₀ x out') e passed)
         (gather-most (λ p. rows_by ar facts (words_at ar listings spans (p + 1)) (p + 1) n constants os) (q + 1) 31 (omega arith))
 
-    pub passing-on : {marks' : List ℕ} {m : ℕ} → length marks' ≡ length marks → length out' ≡ length out → r ≡ Rows m
+    pub passing-on : {marks' : List ℕ} {m : ℕ} → length marks' ≡ length marks → length out' ≡ length out → r ≡ Some m
         → Passing ar listings spans facts constants os marks₀ marks' out₀ out' n m (q + 1)
     passing-on a b e = record {
       asked = record {
@@ -209,13 +208,13 @@ module _ {ar listings spans facts constants os marks₀ marks out₀ out : List 
       most = omega arith;
       marks-same = a ∙ s.marks-same;
       out-same = b ∙ s.out-same;
-      filled = subst (λ (x : Facts). Filled (all_rows ar facts listings spans n constants os (q + 1)) 0 out₀ x out') e passed;
+      filled = subst (λ (x : Option ℕ). Filled (all_rows ar facts listings spans n constants os (q + 1)) 0 out₀ x out') e passed;
     }
 
 pub passing-end : {ar listings spans facts constants os marks₀ marks out₀ out : List ℕ} {n count q : ℕ} → Passing ar listings spans facts constants os marks₀ marks out₀ out n count q
-    → 31 ≤ q → Filled (all_rows ar facts listings spans n constants os 31) 0 out₀ (Rows count) out
+    → 31 ≤ q → Filled (all_rows ar facts listings spans n constants os 31) 0 out₀ (Some count) out
 passing-end {ar} {listings} {spans} {facts} {constants} {os} {out₀ = out₀} {out = out} {n} {count} {q} s h =
-    subst (λ (x : ℕ). Filled (all_rows ar facts listings spans n constants os x) 0 out₀ (Rows count) out) (omega (arith, s.most)) s.filled
+    subst (λ (x : ℕ). Filled (all_rows ar facts listings spans n constants os x) 0 out₀ (Some count) out) (omega (arith, s.most)) s.filled
 
 -- `next_facts`
 pub spans-are : (table : List ℕ) (place : ℕ) → take (place + variant_words - (place + 2)) (drop (place + 2) table) ≡ spans_at table place
@@ -236,7 +235,7 @@ pub move-standing : {ar listings table : List ℕ} {place n : ℕ} {constants fa
     → n ≤ free → (ordered ≡ true → Ordered ar facts) → Standing ar facts constants os n ordered
 move-standing m h o = record { lent = m.lent; objects = m.objects; most = h; order = o }
 
-pub move-end : (ar listings table : List ℕ) (place n : ℕ) (constants facts os : List ℕ) {out out₀ out' : List ℕ} {r : Facts} → Moving ar listings table place n constants facts os out
+pub move-end : (ar listings table : List ℕ) (place n : ℕ) (constants facts os : List ℕ) {out out₀ out' : List ℕ} {r : Option ℕ} → Moving ar listings table place n constants facts os out
     → n ≤ free → Filled (all_rows ar facts listings (take (place + variant_words - (place + 2)) (drop (place + 2) table)) n constants os (pred predicate_count)) 0 out₀ r out'
     → NextFacts (facts_of ar (after_at ar listings table place n constants facts os)) r out'
 move-end ar listings table place n constants facts os {out} {out₀} {out'} {r} m h f =

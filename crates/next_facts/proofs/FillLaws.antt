@@ -11,11 +11,10 @@ use Rattle.label.specs.Limits.{first_variable, most_places}
 use Rattle.diagram.specs.Words.{up_to}
 use Rattle.state.specs.Lent.{fact_words, most_facts, fact_row}
 use Rattle.state.specs.Max.{gather}
-use Rattle.next_facts.specs.declared.Facts.{Facts}
-use Rattle.next_facts.specs.declared.Facts.TheVariants.{Rows, Many}
 use Rattle.next_facts.specs.Reach.{reached, Reaching}
 use Rattle.next_facts.specs.Filling.{objects_in, under, spread, Filled, FilledBy, Fillable}
 use Rattle.next_facts.specs.FillingLaws.{gather-up_to, gather-most, filled_none, filled-few, filled-then, filled_more}
+use Rattle.std.specs.Prelude.{None, Option, Some}
 
 -- the rows of a prefix, by what the diagram can come to
 module _ (ar facts ws : List ℕ) (p k n : ℕ) (env : List ℕ) where
@@ -36,21 +35,21 @@ module _ (ar facts ws : List ℕ) (p k n : ℕ) (env : List ℕ) where
 
 -- `fill`
 module _ (ar facts ws : List ℕ) (p k n c : ℕ) {env marks out : List ℕ} {count : ℕ} (s : Fillable ar ws env marks out k c count) {b : Bool} (q : b ≡ reached ar facts ws env) where
-  pub fill_none : not b ≡ true → FilledBy (under ar facts ws p k n c env) count env out (Rows count) env out
+  pub fill_none : not b ≡ true → FilledBy (under ar facts ws p k n c env) count env out (Some count) env out
   fill_none e = record {
-    filled = subst (λ (l : List (List ℕ)). Filled l count out (Rows count) out) (sym (under_none ar facts ws p k n env c (sym q ∙ not-true b e))) (filled_none out s.room.few);
+    filled = subst (λ (l : List (List ℕ)). Filled l count out (Some count) out) (sym (under_none ar facts ws p k n env c (sym q ∙ not-true b e))) (filled_none out s.room.few);
     restored = λ m z. refl;
   }
 
   module _ (e : not b ≡ false) where
-    pub fill-row : {r : Facts} {out' : List ℕ} → c ≡ 0 → Filled (fact_row p (objects_in env first_variable k) ∷ []) count out r out'
+    pub fill-row : {r : Option ℕ} {out' : List ℕ} → c ≡ 0 → Filled (fact_row p (objects_in env first_variable k) ∷ []) count out r out'
         → FilledBy (under ar facts ws p k n c env) count env out r env out'
     fill-row {r} {out'} z f = record {
       filled = subst (λ (l : List (List ℕ)). Filled l count out r out') (sym (under_whole ar facts ws p k n env c z (sym q ∙ not-false b e))) f;
       restored = λ m y. refl;
     }
 
-    pub fill-left : {r : Facts} {env' out' : List ℕ} → (c ≡ 0 → ⊥) → FilledBy (spread ar facts ws p k n (c - 1) env n) count env out r env' out'
+    pub fill-left : {r : Option ℕ} {env' out' : List ℕ} → (c ≡ 0 → ⊥) → FilledBy (spread ar facts ws p k n (c - 1) env n) count env out r env' out'
         → FilledBy (under ar facts ws p k n c env) count env out r env' out'
     fill-left {r} {env'} {out'} z f =
         subst (λ (l : List (List ℕ)). FilledBy l count env out r env' out') (sym (under_left ar facts ws p k n env c z (sym q ∙ not-false b e))) f
@@ -75,7 +74,7 @@ pub record Spreading (ar facts ws env₀ env marks₀ marks out₀ out : List �
   pub out-same : length out ≡ length out₀
   pub before : set env (first_variable + (k - (c + 1))) (get_or env₀ (first_variable + (k - (c + 1))) 0) ≡ env₀
   pub within : v ≤ n
-  pub filled : Filled (spread ar facts ws p k n c env₀ v) count out₀ (Rows m) out
+  pub filled : Filled (spread ar facts ws p k n c env₀ v) count out₀ (Some m) out
 
 pub spreading-start : {ar ws env marks out : List ℕ} (facts : List ℕ) (p : ℕ) {k : ℕ} (n : ℕ) {c count : ℕ} → Fillable ar ws env marks out k (c + 1) count
     → Spreading ar facts ws env env marks marks out out p k n c count count 0
@@ -111,7 +110,7 @@ module _ {ar facts ws env₀ env marks₀ marks out₀ out : List ℕ} {p k n c 
       room = record { words = s.room; few = filled-few s.filled };
     }
 
-    module _ {r : Facts} {env' out' : List ℕ} (f : FilledBy (under ar facts ws p k n c (set env (first_variable + (k - (c + 1))) v)) m
+    module _ {r : Option ℕ} {env' out' : List ℕ} (f : FilledBy (under ar facts ws p k n c (set env (first_variable + (k - (c + 1))) v)) m
         (set env (first_variable + (k - (c + 1))) v) out r env' out') where
       more : Filled (spread ar facts ws p k n c env₀ (v + 1)) count out₀ r out'
       unfolding spread
@@ -121,16 +120,16 @@ module _ {ar facts ws env₀ env marks₀ marks out₀ out : List ℕ} {p k n c 
           ∙ sym (gather-up_to (λ o. under ar facts ws p k n c (set env₀ (first_variable + (k - (c + 1))) o)) v))
           (filled-then s.filled f.filled)
 
-      pub spreading-many : (e : r ≡ Many) → FilledBy (spread ar facts ws p k n c env₀ n) count env₀ out₀ Many env' out'
+      pub spreading-many : (e : r ≡ None) → FilledBy (spread ar facts ws p k n c env₀ n) count env₀ out₀ None env' out'
       unfolding spread
       spreading-many e = record {
-        filled = filled_more (subst (λ (x : Facts). Filled (spread ar facts ws p k n c env₀ (v + 1)) count out₀ x out') e more)
+        filled = filled_more (subst (λ (x : Option ℕ). Filled (spread ar facts ws p k n c env₀ (v + 1)) count out₀ x out') e more)
             (gather-most (λ o. under ar facts ws p k n c (set env₀ (first_variable + (k - (c + 1))) o)) (v + 1) n (omega arith));
         restored = λ x z. absurd (let o : ◌≡◌ {A = ℕ} 0 1 = cc in omega arith);
       }
 
       pub spreading-on : {marks' : List ℕ} {m' : ℕ} → length env' ≡ length (set env (first_variable + (k - (c + 1))) v) → length marks' ≡ length marks → length out' ≡ length out
-          → r ≡ Rows m' → Spreading ar facts ws env₀ env' marks₀ marks' out₀ out' p k n c count m' (v + 1)
+          → r ≡ Some m' → Spreading ar facts ws env₀ env' marks₀ marks' out₀ out' p k n c count m' (v + 1)
       spreading-on {marks'} {m'} a b d e = record {
         reaching = record { valid = s.reaching.valid; words = a ∙ length-set env (first_variable + (k - (c + 1))) v ∙ s.reaching.words; places = omega (arith, s.reaching.places) };
         most = s.most;
@@ -143,17 +142,17 @@ module _ {ar facts ws env₀ env marks₀ marks out₀ out : List ℕ} {p k n c 
             ap (λ (l : List ℕ). set l (first_variable + (k - (c + 1))) (get_or env₀ (first_variable + (k - (c + 1))) 0)) (f.restored m' e)
             ∙ set-set env (first_variable + (k - (c + 1))) v (get_or env₀ (first_variable + (k - (c + 1))) 0) ∙ s.before;
         within = omega arith;
-        filled = subst (λ (x : Facts). Filled (spread ar facts ws p k n c env₀ (v + 1)) count out₀ x out') e more;
+        filled = subst (λ (x : Option ℕ). Filled (spread ar facts ws p k n c env₀ (v + 1)) count out₀ x out') e more;
       }
 
   pub spreading-env : {x : ℕ} → x ≡ length (set env (first_variable + (k - (c + 1))) v) → x ≡ length env₀
   spreading-env e = e ∙ length-set env (first_variable + (k - (c + 1))) v ∙ s.env-same
 
-  pub spreading-end : n ≤ v → FilledBy (spread ar facts ws p k n c env₀ n) count env₀ out₀ (Rows m)
+  pub spreading-end : n ≤ v → FilledBy (spread ar facts ws p k n c env₀ n) count env₀ out₀ (Some m)
       (set env (first_variable + (k - (c + 1))) (get_or env₀ (first_variable + (k - (c + 1))) 0)) out
   spreading-end h =
       let z : v ≡ n = omega (arith, s.within) in
       record {
-        filled = subst (λ (x : ℕ). Filled (spread ar facts ws p k n c env₀ x) count out₀ (Rows m) out) z s.filled;
+        filled = subst (λ (x : ℕ). Filled (spread ar facts ws p k n c env₀ x) count out₀ (Some m) out) z s.filled;
         restored = λ x e. s.before;
       }

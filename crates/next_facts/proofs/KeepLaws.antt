@@ -17,12 +17,11 @@ use Rattle.label.proofs.ArityLaws.{arity-most}
 use Rattle.state.specs.Lent.{fact_words, fact_count, predicate_at}
 use Rattle.reduction.specs.Claims.{Lower, differs, onwards}
 use Rattle.state.specs.Lent.{fact_row}
-use Rattle.next_facts.specs.declared.Facts.{Facts}
-use Rattle.next_facts.specs.declared.Facts.TheVariants.{Rows, Many}
 use Rattle.next_facts.specs.Filling.{objects_in, Filled, Room}
 use Rattle.next_facts.specs.FillingLaws.{gather-up_to, gather-most, filled_none, filled-few, filled-then, filled_more}
 use Rattle.next_facts.specs.Keeping.{key_at, Ordered, kept_at, kept_rows}
 use Rattle.next_facts.specs.KeepingLaws.{key-lower}
+use Rattle.std.specs.Prelude.{None, Option, Some}
 
 -- `is_lower`: the words before j are the same
 pub record Lowering (facts : List ℕ) (a b k j : ℕ) : Type 0 where
@@ -116,11 +115,11 @@ ordering-end s h e = record { each = λ m l. s.each m (omega arith) }
 
 -- `keep_row`
 module _ (facts : List ℕ) (p k i : ℕ) {out : List ℕ} {count : ℕ} where
-  pub row_other : Room out count → (get_or facts (i * fact_words) 0 ≡ p → ⊥) → Filled (kept_at facts p k i) count out (Rows count) out
+  pub row_other : Room out count → (get_or facts (i * fact_words) 0 ≡ p → ⊥) → Filled (kept_at facts p k i) count out (Some count) out
   unfolding kept_at predicate_at
   row_other r n = rw (ne_eqb (get_or facts (i * fact_words) 0) p n) (filled_none out r.few)
 
-  pub row-own : {r : Facts} {out' : List ℕ} → get_or facts (i * fact_words) 0 ≡ p → Filled (fact_row p (objects_in facts (i * fact_words + 1) k) ∷ []) count out r out'
+  pub row-own : {r : Option ℕ} {out' : List ℕ} → get_or facts (i * fact_words) 0 ≡ p → Filled (fact_row p (objects_in facts (i * fact_words + 1) k) ∷ []) count out r out'
       → Filled (kept_at facts p k i) count out r out'
   unfolding kept_at predicate_at
   row-own e f = rw (eq-eqb (get_or facts (i * fact_words) 0) p e) f
@@ -131,7 +130,7 @@ pub record Keeping (facts out₀ out : List ℕ) (p k count m i : ℕ) : Type 0 
   pub room : Room out₀ count
   pub most : i ≤ fact_count facts
   pub same : length out ≡ length out₀
-  pub filled : Filled (kept_rows facts p k i) count out₀ (Rows m) out
+  pub filled : Filled (kept_rows facts p k i) count out₀ (Some m) out
 
 pub keeping_start : (facts : List ℕ) {out : List ℕ} (p : ℕ) {k count : ℕ} → k ≤ most_places → Room out count → Keeping facts out out p k count count 0
 unfolding kept_rows
@@ -141,26 +140,26 @@ module _ {facts out₀ out : List ℕ} {p k count m i : ℕ} (s : Keeping facts 
   pub keeping-ask : (i * fact_words + fact_words ≤ length facts) × (k ≤ most_places) × Room out m
   keeping-ask = (omega arith, s.few, record { words = omega (arith, s.same, s.room.words); few = filled-few s.filled })
 
-  module _ {r : Facts} {out' : List ℕ} (f : Filled (kept_at facts p k i) m out r out') where
+  module _ {r : Option ℕ} {out' : List ℕ} (f : Filled (kept_at facts p k i) m out r out') where
     kept_more : Filled (kept_rows facts p k (i + 1)) count out₀ r out'
     unfolding kept_rows
     kept_more = subst (λ (l : List (List ℕ)). Filled l count out₀ r out') (sym (gather-up_to (kept_at facts p k) i)) (filled-then s.filled f)
 
-    pub keeping-many : r ≡ Many → Filled (kept_rows facts p k (fact_count facts)) count out₀ Many out'
+    pub keeping-many : r ≡ None → Filled (kept_rows facts p k (fact_count facts)) count out₀ None out'
     unfolding kept_rows
-    keeping-many e = filled_more (subst (λ (x : Facts). Filled (kept_rows facts p k (i + 1)) count out₀ x out') e kept_more)
+    keeping-many e = filled_more (subst (λ (x : Option ℕ). Filled (kept_rows facts p k (i + 1)) count out₀ x out') e kept_more)
         (gather-most (kept_at facts p k) (i + 1) (fact_count facts) (omega arith))
 
-    pub keeping-on : {c : ℕ} → length out' ≡ length out → r ≡ Rows c → Keeping facts out₀ out' p k count c (i + 1)
+    pub keeping-on : {c : ℕ} → length out' ≡ length out → r ≡ Some c → Keeping facts out₀ out' p k count c (i + 1)
     keeping-on a e = record {
       few = s.few;
       room = s.room;
       most = omega arith;
       same = a ∙ s.same;
-      filled = subst (λ (x : Facts). Filled (kept_rows facts p k (i + 1)) count out₀ x out') e kept_more;
+      filled = subst (λ (x : Option ℕ). Filled (kept_rows facts p k (i + 1)) count out₀ x out') e kept_more;
     }
 
 pub keeping-end : {facts out₀ out : List ℕ} {p k count m i : ℕ} → Keeping facts out₀ out p k count m i → fact_count facts ≤ i
-    → Filled (kept_rows facts p k (fact_count facts)) count out₀ (Rows m) out
+    → Filled (kept_rows facts p k (fact_count facts)) count out₀ (Some m) out
 keeping-end {facts} {out₀} {out} {p} {k} {count} {m} {i} s h =
-    subst (λ (x : ℕ). Filled (kept_rows facts p k x) count out₀ (Rows m) out) (omega (arith, s.most)) s.filled
+    subst (λ (x : ℕ). Filled (kept_rows facts p k x) count out₀ (Some m) out) (omega (arith, s.most)) s.filled

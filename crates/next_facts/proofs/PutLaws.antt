@@ -10,9 +10,9 @@ use borrow.Author.Tests.{le-leb, lt-leb}
 use Rattle.basics.specs.Tests.{Cmp, below, equal, above, cmp}
 use Rattle.label.specs.Limits.{most_places}
 use Rattle.state.specs.Lent.{fact_words, most_facts, fact_row}
-use Rattle.next_facts.specs.declared.Facts.TheVariants.{Rows, Many}
 use Rattle.next_facts.specs.Filling.{objects_in, row_word, rows_counted, Filled, Room}
 use Rattle.next_facts.proofs.StartLaws.{word_first, word-behind, word-object}
+use Rattle.std.specs.Prelude.{None, Some}
 
 row-length : (p : ℕ) (os : List ℕ) → length (fact_row p os) ≡ fact_words
 row-length p os = ap suc (length-take-le most_places (os ++ replicate most_places 0) (omega (arith, length-append os (replicate most_places 0))))
@@ -97,10 +97,10 @@ module _ {ws out₀ out : List ℕ} {at p k count i : ℕ} (s : Putting ws out�
           ∙ ap (λ (xs : List ℕ). take (count * fact_words) out₀ ++ xs) (sym (take-suc row i 0 (omega (arith, row-length p (objects_in ws at k)))) ∙ ap (λ (x : ℕ). take x row) b);
     }
 
-  pub putting-end : fact_words ≤ i → Filled (fact_row p (objects_in ws at k) ∷ []) count out₀ (Rows (count + 1)) out
+  pub putting-end : fact_words ≤ i → Filled (fact_row p (objects_in ws at k) ∷ []) count out₀ (Some (count + 1)) out
   unfolding rows_counted
   putting-end h = record {
-    answer = sym (ap (λ b. cond b (Rows (count + 1)) Many) (le-leb (count + 1) most_facts (omega (arith, s.place))));
+    answer = sym (ap (λ b. cond b (Some (count + 1)) None) (le-leb (count + 1) most_facts (omega (arith, s.place))));
     written = λ m e.
         let z : count + 1 ≡ m = cc in
         let row : List ℕ = fact_row p (objects_in ws at k) in
@@ -109,9 +109,9 @@ module _ {ws out₀ out : List ℕ} {at p k count i : ℕ} (s : Putting ws out�
         ∙ ap (λ (xs : List ℕ). take (count * fact_words) out₀ ++ xs) (take_all i row (omega (arith, row-length p (objects_in ws at k))) ∙ sym (append-nil row));
   }
 
-pub put-many : (row out : List ℕ) {count : ℕ} → count ≡ most_facts → Filled (row ∷ []) count out Many out
+pub put-many : (row out : List ℕ) {count : ℕ} → count ≡ most_facts → Filled (row ∷ []) count out None out
 unfolding rows_counted
 put-many row out {count} e = record {
-  answer = sym (ap (λ b. cond b (Rows (count + 1)) Many) (lt-leb (count + 1) most_facts (omega arith)));
+  answer = sym (ap (λ b. cond b (Some (count + 1)) None) (lt-leb (count + 1) most_facts (omega arith)));
   written = λ m z. absurd (let o : ◌≡◌ {A = ℕ} 0 1 = cc in omega arith);
 }

@@ -16,7 +16,7 @@ use Rattle.state.proofs.LentLaws.{some-made, some-none}
 use Rattle.next_facts.specs.Reach.{free, word_of, is_open, differs, fits, may_hold, pick_leaf, Placed}
 
 -- `differs`
-pub differs-free : (w o : ℕ) → w ≡ free → false ≡ differs w o
+pub differs-free : (w o : ℕ) → w ≡ free → not (eqb w free) ≡ differs w o
 unfolding differs
 differs-free w o e = rw (eq-eqb w free e)
 

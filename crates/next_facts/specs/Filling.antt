@@ -10,9 +10,8 @@ use Rattle.truths.specs.TruthChecks.{has_truth}
 use Rattle.state.specs.Lent.{fact_words, most_facts, fact_row}
 use Rattle.state.specs.Max.{gather}
 use Rattle.replay.specs.Replay.{flat}
-use Rattle.next_facts.specs.declared.Facts.{Facts}
-use Rattle.next_facts.specs.declared.Facts.TheVariants.{Rows, Many}
 use Rattle.next_facts.specs.Reach.{free, reached, Reaching}
+use Rattle.std.specs.Prelude.{None, Option, Some}
 
 -- ===== The words that env begins with =====
 
@@ -93,18 +92,18 @@ unfolding rows_by words_at
 all_rows ar facts listings spans n constants os m = gather (λ p. rows_by ar facts (words_at ar listings spans (p + 1)) (p + 1) n constants os) (up_to m)
 
 -- m rows, or more than a state in hand may have
-unfoldable pub rows_counted : ℕ → Facts
-rows_counted m = cond (leb m most_facts) (Rows m) Many
+unfoldable pub rows_counted : ℕ → Option ℕ
+rows_counted m = cond (leb m most_facts) (Some m) None
 
 -- the rows of the list are written behind the first `count` ones
-pub record Filled (rows : List (List ℕ)) (count : ℕ) (out : List ℕ) (r : Facts) (out' : List ℕ) : Type 0 where
+pub record Filled (rows : List (List ℕ)) (count : ℕ) (out : List ℕ) (r : Option ℕ) (out' : List ℕ) : Type 0 where
   pub answer : r ≡ rows_counted (count + length rows)
-  pub written : (m : ℕ) → r ≡ Rows m → take (m * fact_words) out' ≡ take (count * fact_words) out ++ flat rows
+  pub written : (m : ℕ) → r ≡ Some m → take (m * fact_words) out' ≡ take (count * fact_words) out ++ flat rows
 
 -- and env is as it was
-pub record FilledBy (rows : List (List ℕ)) (count : ℕ) (env out : List ℕ) (r : Facts) (env' out' : List ℕ) : Type 0 where
+pub record FilledBy (rows : List (List ℕ)) (count : ℕ) (env out : List ℕ) (r : Option ℕ) (env' out' : List ℕ) : Type 0 where
   pub filled : Filled rows count out r out'
-  pub restored : (m : ℕ) → r ≡ Rows m → env' ≡ env
+  pub restored : (m : ℕ) → r ≡ Some m → env' ≡ env
 
 -- room for the rows, and a place for them
 pub record Room (out : List ℕ) (count : ℕ) : Type 0 where

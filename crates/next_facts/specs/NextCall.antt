@@ -7,8 +7,7 @@ use Rattle.mdp.specs.Model.{GoodVariant}
 use Rattle.mdp.specs.Bellman.{state_after}
 use Rattle.model.specs.Inner.{LaidVariant}
 use Rattle.model.specs.Layout.{variant_words, variant_at}
-use Rattle.next_facts.specs.declared.Facts.{Facts}
-use Rattle.next_facts.specs.declared.Facts.TheVariants.{Rows, Many}
+use Rattle.std.specs.Prelude.{None, Option, Some}
 
 -- the next state: the variant at the place, the objects of its parameters
 unfoldable pub after_at : List ℕ → List ℕ → List ℕ → ℕ → ℕ → List ℕ → List ℕ → List ℕ → State
@@ -27,10 +26,10 @@ pub record Moving (ar listings table : List ℕ) (place n : ℕ) (constants fact
   pub words : most_facts * fact_words ≤ length out
 
 -- Many exactly if there are more facts than a state in hand may have
-abbrev pub facts_answer : List ℕ → Facts
-facts_answer F = cond (ltb most_facts (fact_count F)) Many (Rows (fact_count F))
+abbrev pub facts_answer : List ℕ → Option ℕ
+facts_answer F = cond (ltb most_facts (fact_count F)) None (Some (fact_count F))
 
 -- the facts F are answered and written: behind them, and where they are too many, words are free
-pub record NextFacts (F : List ℕ) (r : Facts) (out' : List ℕ) : Type 0 where
+pub record NextFacts (F : List ℕ) (r : Option ℕ) (out' : List ℕ) : Type 0 where
   pub answer : r ≡ facts_answer F
-  pub written : (m : ℕ) → r ≡ Rows m → take (m * fact_words) out' ≡ F
+  pub written : (m : ℕ) → r ≡ Some m → take (m * fact_words) out' ≡ F

@@ -36,23 +36,22 @@ use Rattle.model.specs.Layout.{spans_at, variant_at}
 use Rattle.replay.specs.Replay.{rows_at, fact_rows, facts_of}
 use Rattle.replay.proofs.FactLaws.{facts-count}
 use Rattle.next_facts.specs.Reach.{free}
-use Rattle.next_facts.specs.declared.Facts.{Facts}
-use Rattle.next_facts.specs.declared.Facts.TheVariants.{Rows, Many}
 use Rattle.next_facts.specs.Filling.{own_words, rows_by, words_at, all_rows, rows_counted, Filled}
 use Rattle.next_facts.specs.UnderLaws.{those-same, tuple-size, is_one, rows_are}
 use Rattle.next_facts.specs.OwnLaws.{own-valid, own-diagram, own-says}
 use Rattle.next_facts.specs.KeepingLaws.{bound-below}
 use Rattle.next_facts.specs.NextCall.{after_at, Moving, NextFacts}
+use Rattle.std.specs.Prelude.{None, Option as StdOption, Some}
 
 gather-same : {B : Type 0} (f g : ℕ → List B) (xs : List ℕ) → ((a : ℕ) → Memᴰ a xs → f a ≡ g a) → gather f xs ≡ gather g xs
 gather-same f g [] h = refl
 gather-same f g (x ∷ xs) h = ap₂ ◌++◌ (h x (Memᴰ.head refl)) (gather-same f g xs (λ a i. h a (Memᴰ.tail i)))
 
-counted-answer : (c : ℕ) → rows_counted c ≡ cond (ltb most_facts c) Many (Rows c)
+counted-answer : (c : ℕ) → rows_counted c ≡ cond (ltb most_facts c) None (Some c)
 unfolding rows_counted
 counted-answer c = go (cmp c (suc most_facts))
   where
-    go : Cmp c (suc most_facts) → cond (leb c most_facts) (Rows c) Many ≡ cond (ltb most_facts c) Many (Rows c)
+    go : Cmp c (suc most_facts) → cond (leb c most_facts) (Some c) None ≡ cond (ltb most_facts c) None (Some c)
     go (below l) = rw (le-leb c most_facts (omega arith), le-ltb most_facts c (omega arith)) refl
     go (equal l) = rw (lt-leb c most_facts (omega arith), lt-ltb most_facts c (omega arith)) refl
     go (above l) = rw (lt-leb c most_facts (omega arith), lt-ltb most_facts c (omega arith)) refl
@@ -141,7 +140,7 @@ module _ (ar listings table : List ℕ) (place n : ℕ) (constants facts os out 
       let e : p + 1 ≡ suc p = omega arith in
       ap (λ (q : ℕ). rows_by ar facts (words_at ar listings (spans_at table place) q) q n constants os) e ∙ rows_next (suc p) (omega arith) (omega arith))
 
-  pub next-end : (spans : List ℕ) → spans ≡ spans_at table place → (r : Facts) (out₀ out' : List ℕ) → Filled (all_rows ar facts listings spans n constants os (pred predicate_count)) 0 out₀ r out'
+  pub next-end : (spans : List ℕ) → spans ≡ spans_at table place → (r : StdOption ℕ) (out₀ out' : List ℕ) → Filled (all_rows ar facts listings spans n constants os (pred predicate_count)) 0 out₀ r out'
       → NextFacts (facts_of ar (after_at ar listings table place n constants facts os)) r out'
   unfolding facts_of
   next-end spans q r out₀ out' f =

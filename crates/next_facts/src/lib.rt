@@ -1,4 +1,5 @@
 // The facts of the next state: from a state, a variant's lent truth diagrams and the objects of its parameters to rows of facts.
+// What writes rows answers how many stand there then, or None where they are more than a state in hand may have.
 #![tactic(auto)]
 
 ghost use Rattle.std.specs.Prelude.{◌≡◌, true, ◌||◌, not, suc, pred, ◌+◌, ◌-◌, ◌*◌, ◌<◌, ◌≤◌, length, set, take, drop, [], ◌∷◌};
@@ -17,16 +18,9 @@ ghost use Rattle.next_facts.specs.NextCall.{after_at, Moving, NextFacts};
 use label::{Atom, Label, Term};
 use state::FACT_WORDS;
 
-// Rows of facts, or more than a state in hand may have.
-#[derive(Clone, Copy)]
-pub enum Facts {
-    Rows(usize),
-    Many,
-}
-
 // What stands for a term that has no object.
 const FREE: u64 = 18446744073709551615;
-// Facts of a state in hand, at most.
+// Option<usize> of a state in hand, at most.
 pub const FACTS: usize = 1024;
 
 const ARGUMENTS: usize = Term::FIRST_VARIABLE as usize;
@@ -37,10 +31,7 @@ const TERMS: usize = Term::END as usize;
 fn differs(w: u64, o: u64) -> bool
     ensures { result ≡ differs w o }
 {
-    if w == FREE {
-        return false;
-    }
-    o != w
+    w != FREE && o != w
 }
 
 // Whether one of the first k places of the label has no object.
@@ -48,13 +39,11 @@ fn is_open(env: &[u64], l: Label, k: u64) -> bool
     requires { Placed env.now l.packed k }
     ensures { result ≡ is_open env.now l.packed k }
 {
-    let mut j = 0;
-    while j < k {
+    for j in 0..k {
         let t = l.place(j) as usize;
         if env[t] == FREE {
             return true;
         }
-        j += 1;
     }
     false
 }
@@ -68,13 +57,11 @@ fn fits(facts: &[u64], i: usize, env: &[u64], l: Label, k: u64) -> bool
     if facts[i * FACT_WORDS] != l.predicate() {
         return false;
     }
-    let mut j = 0;
-    while j < k {
+    for j in 0..k {
         let t = l.place(j) as usize;
         if differs(env[t], facts[i * FACT_WORDS + 1 + (j as usize)]) {
             return false;
         }
-        j += 1;
     }
     true
 }
@@ -85,12 +72,10 @@ fn some_fits(facts: &[u64], env: &[u64], l: Label, k: u64) -> bool
     ensures { result ≡ some_below (fact_count facts.now) (fits facts.now env.now l.packed k) }
 {
     let rows = facts.len() / FACT_WORDS;
-    let mut i = 0;
-    while i < rows {
+    for i in 0..rows {
         if fits(facts, i, env, l, k) {
             return true;
         }
-        i += 1;
     }
     false
 }
@@ -160,11 +145,9 @@ fn reach(arities: &[u64], words: &[u64], facts: &[u64], env: &[u64], marks: &mut
     ensures { result ≡ reached arities.now facts.now words.now env.now }
 {
     let rows = words.len() / 3;
-    let mut i = 0;
-    while i < rows {
+    for i in 0..rows {
         let x = mark(arities, words, facts, env, marks, i);
         marks[i] = x;
-        i += 1;
     }
     marks[rows - 1] != 0
 }
@@ -184,22 +167,20 @@ fn row_word(words: &[u64], at: usize, p: u64, k: usize, i: usize) -> u64
 }
 
 // Writes one row more, with the k objects that stand at the place.
-fn put(words: &[u64], at: usize, out: &mut [u64], p: u64, k: usize, count: usize) -> Facts
+fn put(words: &[u64], at: usize, out: &mut [u64], p: u64, k: usize, count: usize) -> Option<usize>
     requires k_in_bounds { at + k ≤ length words.now }
     requires k_le_most_places { k ≤ most_places }
     requires room { Room out.old count }
     ensures { Filled (fact_row p (objects_in words.now at k) ∷ []) count out.old result out.new }
 {
     if count == FACTS {
-        return Facts::Many;
+        return None;
     }
-    let mut i = 0;
-    while i < FACT_WORDS {
+    for i in 0..FACT_WORDS {
         let w = row_word(words, at, p, k, i);
         out[count * FACT_WORDS + i] = w;
-        i += 1;
     }
-    Facts::Rows(count + 1)
+    Some(count + 1)
 }
 
 // Writes the rows of p with the arguments that have objects; the last `left` of its k places have none.
@@ -216,13 +197,13 @@ fn fill(
     k: usize,
     left: usize,
     count: usize,
-) -> Facts
+) -> Option<usize>
     requires { Fillable arities.now words.now env.old marks.old out.old k left count }
     ensures { FilledBy (under arities.now facts.now words.now p k n left env.old) count
         env.old out.old result env.new out.new }
 {
     if !reach(arities, words, facts, env, marks) {
-        return Facts::Rows(count);
+        return Some(count);
     }
     if left == 0 {
         return put(env, ARGUMENTS, out, p, k, count);
@@ -256,7 +237,7 @@ fn spread(
     k: usize,
     left: usize,
     count: usize,
-) -> Facts
+) -> Option<usize>
     requires { Fillable arities.now words.now env.old marks.old out.old k (left + 1) count }
     ensures { FilledBy (spread arities.now facts.now words.now p k n left env.old n) count
         env.old out.old result env.new out.new }
@@ -264,17 +245,12 @@ fn spread(
     let t = ARGUMENTS + (k - (left + 1));
     let before = env[t];
     let mut m = count;
-    let mut v = 0;
-    while v < n {
+    for v in 0..n {
         env[t] = v;
-        let Facts::Rows(c) = fill(arities, words, facts, env, marks, out, n, p, k, left, m) else {
-            return Facts::Many;
-        };
-        m = c;
-        v += 1;
+        m = fill(arities, words, facts, env, marks, out, n, p, k, left, m)?;
     }
     env[t] = before;
-    Facts::Rows(m)
+    Some(m)
 }
 
 // The object of parameter i, that of constant 0 where it has none.
@@ -308,11 +284,9 @@ fn start(constants: &[u64], objects: &[u64], k: usize, env: &mut [u64])
     requires { length env.old ≡ term_end }
     ensures { Begun constants.now objects.now k env.new term_end }
 {
-    let mut t = 0;
-    while t < TERMS {
+    for t in 0..TERMS {
         let w = first_word(constants, objects, k, t);
         env[t] = w;
-        t += 1;
     }
 }
 
@@ -356,7 +330,7 @@ fn fill_by(
     out: &mut [u64],
     p: usize,
     count: usize,
-) -> Facts
+) -> Option<usize>
     requires { Walkable arities.now words.now marks.old out.old p count }
     ensures { Filled (rows_by arities.now facts.now words.now p n constants.now objects.now)
         count out.old result out.new }
@@ -376,14 +350,12 @@ fn is_lower(facts: &[u64], a: usize, b: usize, k: usize) -> bool
     requires k_le_most_places { k ≤ most_places }
     ensures { result ≡ true → Lower (take (suc k) (drop a facts.now)) (take (suc k) (drop b facts.now)) }
 {
-    let mut j = 0;
-    while j <= k {
+    for j in 0..=k {
         let x = facts[a + j];
         let y = facts[b + j];
         if x != y {
             return x < y;
         }
-        j += 1;
     }
     false
 }
@@ -394,8 +366,7 @@ fn are_ordered(arities: &[u64], facts: &[u64]) -> bool
     ensures { result ≡ true → Ordered arities.now facts.now }
 {
     let rows = facts.len() / FACT_WORDS;
-    let mut i = 1;
-    while i < rows {
+    for i in 1..rows {
         let b = i * FACT_WORDS;
         let a = b - FACT_WORDS;
         let p = facts[a] as usize;
@@ -403,41 +374,42 @@ fn are_ordered(arities: &[u64], facts: &[u64]) -> bool
         if !is_lower(facts, a, b, k) {
             return false;
         }
-        i += 1;
     }
     true
 }
 
 // Writes row i of the facts, if it is one of p.
-fn keep_row(facts: &[u64], i: usize, out: &mut [u64], p: u64, k: usize, count: usize) -> Facts
+fn keep_row(
+    facts: &[u64],
+    i: usize,
+    out: &mut [u64],
+    p: u64,
+    k: usize,
+    count: usize,
+) -> Option<usize>
     requires fact_words_in_bounds { i * fact_words + fact_words ≤ length facts.now }
     requires k_le_most_places { k ≤ most_places }
     requires room { Room out.old count }
     ensures { Filled (kept_at facts.now p k i) count out.old result out.new }
 {
     if facts[i * FACT_WORDS] != p {
-        return Facts::Rows(count);
+        return Some(count);
     }
     put(facts, i * FACT_WORDS + 1, out, p, k, count)
 }
 
 // Writes the rows of p in the order of the facts.
-fn keep(facts: &[u64], out: &mut [u64], p: u64, k: usize, count: usize) -> Facts
+fn keep(facts: &[u64], out: &mut [u64], p: u64, k: usize, count: usize) -> Option<usize>
     requires k_le_most_places { k ≤ most_places }
     requires room { Room out.old count }
     ensures { Filled (kept_rows facts.now p k (fact_count facts.now)) count out.old result out.new }
 {
     let rows = facts.len() / FACT_WORDS;
     let mut m = count;
-    let mut i = 0;
-    while i < rows {
-        let Facts::Rows(c) = keep_row(facts, i, out, p, k, m) else {
-            return Facts::Many;
-        };
-        m = c;
-        i += 1;
+    for i in 0..rows {
+        m = keep_row(facts, i, out, p, k, m)?;
     }
-    Facts::Rows(m)
+    Some(m)
 }
 
 // Writes the rows of p: by its truth diagram, or as they are.
@@ -454,7 +426,7 @@ fn fill_at(
     out: &mut [u64],
     p: usize,
     count: usize,
-) -> Facts
+) -> Option<usize>
     requires askable { Askable arities.now listings.now spans.now marks.old out.old p count }
     requires standing { Standing arities.now facts.now constants.now objects.now n ordered }
     ensures { Filled (rows_by arities.now facts.now (words_at arities.now listings.now spans.now p) p n
@@ -489,16 +461,15 @@ fn fill_all(
     objects: &[u64],
     marks: &mut [u64],
     out: &mut [u64],
-) -> Facts
+) -> Option<usize>
     requires askable { Askable arities.now listings.now spans.now marks.old out.old 1 0 }
     requires standing { Standing arities.now facts.now constants.now objects.now n ordered }
     ensures { Filled (all_rows arities.now facts.now listings.now spans.now n
         constants.now objects.now (pred predicate_count)) 0 out.old result out.new }
 {
     let mut count = 0;
-    let mut q = 0usize;
-    while q < Label::PREDICATES - 1 {
-        let Facts::Rows(m) = fill_at(
+    for q in 0..Label::PREDICATES - 1 {
+        count = fill_at(
             arities,
             listings,
             spans,
@@ -511,13 +482,9 @@ fn fill_all(
             out,
             q + 1,
             count,
-        ) else {
-            return Facts::Many;
-        };
-        count = m;
-        q += 1;
+        )?;
     }
-    Facts::Rows(count)
+    Some(count)
 }
 
 // Writes the facts of the next state as rows, predicate by predicate, lowest objects first: the variant at the place, its parameters' objects. Behind the rows, and where
@@ -532,7 +499,7 @@ pub fn next_facts(
     facts: &[u64],
     objects: &[u64],
     out: &mut [u64],
-) -> Facts
+) -> Option<usize>
     requires { Moving arities.now listings.now table.now place n constants.now facts.now objects.now out.old }
     ensures { NextFacts (facts_of arities.now (after_at arities.now listings.now table.now place n constants.now
         facts.now objects.now)) result out.new }

@@ -61,12 +61,8 @@ module _ {ws : List ℕ} {n : ℕ} (w : Rows ws n) {i : ℕ} (h : i < n) where
     pub sum-small : get_or counts (get_or ws (i * 3 + 1) 0) 0 + get_or counts (get_or ws (i * 3 + 2) 0) 0 ≤ 514
     sum-small = omega (arith, count-high, count_low)
 
-    pub count-more : most_paths < get_or counts (get_or ws (i * 3 + 1) 0) 0 + get_or counts (get_or ws (i * 3 + 2) 0) 0 → suc most_paths ≡ min (suc most_paths) (length (paths (tree ws i)))
-    count-more k = omega (arith, count-high, count_low, count-tree)
-
-    pub count-sum : get_or counts (get_or ws (i * 3 + 1) 0) 0 + get_or counts (get_or ws (i * 3 + 2) 0) 0 ≤ most_paths
-        → get_or counts (get_or ws (i * 3 + 1) 0) 0 + get_or counts (get_or ws (i * 3 + 2) 0) 0 ≡ min (suc most_paths) (length (paths (tree ws i)))
-    count-sum k = omega (arith, count-high, count_low, count-tree)
+    pub count-min : min (get_or counts (get_or ws (i * 3 + 1) 0) 0 + get_or counts (get_or ws (i * 3 + 2) 0) 0) (suc most_paths) ≡ min (suc most_paths) (length (paths (tree ws i)))
+    count-min = omega (arith, count-high, count_low, count-tree)
 
 pub leaf-label : (ws : List ℕ) (i : ℕ) → (get_or ws (i * 3) 0 ≡ leaf_mark → ⊥) → label_at ws i ≡ leaf_mark → ⊥
 unfolding label_at

@@ -37,10 +37,7 @@ fn count_row(words: &[u64], counts: &[u64], n: usize, i: usize) -> u64
     }
     let a = counts[words[i * 3 + 1] as usize];
     let b = counts[words[i * 3 + 2] as usize];
-    if a + b > (PATHS as u64) {
-        return MANY;
-    }
-    a + b
+    (a + b).min(MANY)
 }
 
 // Counts the paths of each of the n rows.
@@ -49,10 +46,8 @@ pub fn count_paths(words: &[u64], counts: &mut [u64], n: usize)
     requires n_in_bounds { n ≤ length counts.old }
     ensures { Counted words.now counts.new n }
 {
-    let mut i = 0;
-    while i < n {
+    for i in 0..n {
         counts[i] = count_row(words, counts, n, i);
-        i += 1;
     }
 }
 
@@ -92,8 +87,7 @@ pub fn leaf_of(words: &[u64], counts: &[u64], n: usize, k: u64) -> u64
     let mut m = k;
     while words[i * 3] != Label::LEAF {
         let s = step_on(words, counts, n, i, m);
-        i = s.row;
-        m = s.rest;
+        (i, m) = (s.row, s.rest);
     }
     words[i * 3 + 1]
 }
@@ -104,10 +98,8 @@ pub fn find_leaves(words: &[u64], counts: &[u64], n: usize, m: usize, leaves: &m
     requires m_in_bounds { m ≤ length leaves.old }
     ensures { Leaves words.now leaves.new n m }
 {
-    let mut p = 0;
-    while p < m {
+    for p in 0..m {
         leaves[p] = leaf_of(words, counts, n, p as u64);
-        p += 1;
     }
 }
 
@@ -126,8 +118,7 @@ pub fn side_of(words: &[u64], counts: &[u64], n: usize, k: u64, r: usize) -> u64
             return 0;
         }
         let s = step_on(words, counts, n, i, m);
-        i = s.row;
-        m = s.rest;
+        (i, m) = (s.row, s.rest);
     }
     if i < r {
         return 0;
@@ -136,9 +127,10 @@ pub fn side_of(words: &[u64], counts: &[u64], n: usize, k: u64, r: usize) -> u64
         return 0;
     }
     if m < counts[words[i * 3 + 1] as usize] {
-        return 1;
+        1
+    } else {
+        2
     }
-    2
 }
 
 // Writes the literals of path k from place `first` on, and answers how many they are.
@@ -162,8 +154,7 @@ pub fn path_into(
     while words[i * 3] != Label::LEAF {
         let s = step_on(words, counts, n, i, m);
         out[first + j] = s.code;
-        i = s.row;
-        m = s.rest;
+        (i, m) = (s.row, s.rest);
         j += 1;
     }
     j

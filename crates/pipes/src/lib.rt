@@ -48,42 +48,21 @@ pub fn last(t: Tally) -> usize
 pub fn is_open(t: Tally) -> bool
     ensures { result ≡ is_open t.flow }
 {
-    let flow = t.flow;
-    match flow {
-        Flow::Open => true,
-        Flow::Ended => false,
-        Flow::Unread => false,
-        Flow::Unwritten => false,
-        Flow::TooLong => false,
-    }
+    matches!(t.flow, Flow::Open)
 }
 
 // Whether the input is read to its end.
 pub fn is_ended(t: Tally) -> bool
     ensures { result ≡ is_ended t.flow }
 {
-    let flow = t.flow;
-    match flow {
-        Flow::Open => false,
-        Flow::Ended => true,
-        Flow::Unread => false,
-        Flow::Unwritten => false,
-        Flow::TooLong => false,
-    }
+    matches!(t.flow, Flow::Ended)
 }
 
 // Whether a read failed.
 pub fn is_unread(t: Tally) -> bool
     ensures { result ≡ is_unread t.flow }
 {
-    let flow = t.flow;
-    match flow {
-        Flow::Open => false,
-        Flow::Ended => false,
-        Flow::Unread => true,
-        Flow::Unwritten => false,
-        Flow::TooLong => false,
-    }
+    matches!(t.flow, Flow::Unread)
 }
 
 // Nothing more was moved, and it does not go on.
@@ -91,10 +70,9 @@ fn stop(t: Tally, why: Flow) -> Tally
     ensures { result ≡ stopped t why }
 {
     Tally {
-        read: t.read,
-        written: t.written,
         last: 0,
         flow: why,
+        ..t
     }
 }
 
@@ -105,9 +83,9 @@ fn add_read(t: Tally, n: usize) -> Tally
 {
     Tally {
         read: t.read + n as u64,
-        written: t.written,
         last: n,
         flow: Flow::Open,
+        ..t
     }
 }
 
@@ -137,12 +115,9 @@ pub fn write(mut stdout: Stdout, t: Tally, bytes: &[u8]) -> Tally
     if stdout.write_all(bytes).is_err() {
         return stop(t, Flow::Unwritten);
     }
-    let flow = t.flow;
     Tally {
-        read: t.read,
         written: t.written + bytes.len() as u64,
-        last: t.last,
-        flow: flow,
+        ..t
     }
 }
 

@@ -3,12 +3,13 @@ use mathlib.Core.Path.{◌≡◌, refl, sym, ap, subst, ◌∙◌}
 use mathlib.Core.Logic.{⊎_elim}
 use mathlib.Core.Bool.{Bool, true, false}
 use mathlib.Core.List.{List}
-use Prim.Native.Nat.{ℕ, zero, suc, ◌+◌, ◌-◌, ◌*◌, ◌/◌, ◌%◌, ◌<◌, ◌≤◌, zero-le}
+use Prim.Native.Nat.{ℕ, zero, suc, ◌+◌, ◌-◌, ◌*◌, ◌/◌, ◌%◌, ◌<◌, ◌≤◌, zero-le, min}
 use native.Mathlib.Omega.{arith}
 use lib.ListN.{length, get_or, set, length-set}
 use lib.Dec.{eqb}
 use borrow.Author.Tests.{eq-eqb, ne_eqb}
 use lib.Seq.{get_or-set_same, get_or-set_other}
+use Rattle.basics.specs.Tests.{Cmp, below, equal, above, cmp}
 use Rattle.label.specs.Inner.{Compared}
 use Rattle.label.proofs.OrderLaws.{compared-less, compared-not}
 use Rattle.label.specs.Limits.{leaf_mark}
@@ -17,14 +18,12 @@ use Rattle.table.specs.ChainLaws.{test, prev-same, prev-other, prev-none}
 use Rattle.table.specs.ChainedLaws.{walking_start, walking_on, link-less, cleared-on, cleared-all}
 use Rattle.diagram.specs.Words.{label_at, high_at, low_at}
 use Rattle.apply.specs.declared.Operation.{Operation}
-use Rattle.apply.specs.declared.Operation.TheVariants.{Product}
 use Rattle.apply.specs.Pairs.{absorbs}
 use Rattle.plan.specs.Walk.{is_end, lesser, pair_label, on_high, on_low}
 use Rattle.plan.specs.WalkLaws.{lesser-le, lesser-gt, end-label, lower-label, descend-first, descend-second, descend-both}
 use Rattle.plan.specs.Plan.{buckets, key_count, hash_of, key_at, link_at, hash_at, put_entry, Index, Clean, Touched, pack_base, went_of, Entered}
 use Rattle.plan.specs.PlanLaws.{chained}
-use Rattle.plan.specs.declared.Went.{Went}
-use Rattle.plan.specs.declared.Went.TheVariants.{To, Full}
+use Rattle.std.specs.Prelude.{None, Option, Some}
 
 -- the search of a chain for the key k
 pub record Chain (ws : List ℕ) (count k at : ℕ) : Type 0 where
@@ -92,18 +91,18 @@ clear-end w h = record { slots = w.slots; zeros = cleared-all w.cleared h }
 
 -- the ways out of `add`
 module _ {ws heads : List ℕ} {limit count k label first second : ℕ} where
-  pub add-full : count ≡ limit → Entered ws heads limit count k label first second Full ws heads
+  pub add-full : count ≡ limit → Entered ws heads limit count k label first second None ws heads
   add-full e = record { to = λ m n q. absurd (let z : ◌≡◌ {A = ℕ} 0 1 = cc in omega arith); full = λ q. (e, refl, refl) }
 
   pub add-to : {b link : ℕ} → Index ws heads limit count → (count ≡ limit → ⊥) → (b ≡ hash_of k) × (b < buckets) → link ≡ get_or heads b 0
-      → Entered ws heads limit count k label first second (To count (count + 1))
+      → Entered ws heads limit count k label first second (Some (count, (count + 1)))
       (set (set (set (set (set ws (count * 5) k) (count * 5 + 1) link) (count * 5 + 2) label) (count * 5 + 3) first) (count * 5 + 4) second)
       (set heads b (count + 1))
   unfolding put_entry
   add-to {b} {link} t f h d = record {
     to = λ m n q. (
-      (let z : count ≡ m = cc in sym z),
-      (let z : count + 1 ≡ n = cc in sym z),
+      (let z : ◌≡◌ {A = ℕ × ℕ} (count, count + 1) (m, n) = cc in sym (ap (λ (p : ℕ × ℕ). p.0) z)),
+      (let z : ◌≡◌ {A = ℕ × ℕ} (count, count + 1) (m, n) = cc in sym (ap (λ (p : ℕ × ℕ). p.1) z)),
       omega (arith, t.within),
       ap (λ (c : ℕ). put_entry ws count k c label first second) (d ∙ ap (λ (c : ℕ). get_or heads c 0) h.0),
       ap (λ (c : ℕ). set heads c (count + 1)) h.0,
@@ -112,49 +111,47 @@ module _ {ws heads : List ℕ} {limit count k label first second : ℕ} where
   }
 
 -- an answer in one word
-pub packed-to : (number count : ℕ) → (number < pack_base) × (0 < count) × (count < pack_base) → went_of (count * pack_base + number) ≡ To number count
+pub packed-to : (number count : ℕ) → (number < pack_base) × (0 < count) × (count < pack_base) → went_of (count * pack_base + number) ≡ Some (number, count)
 unfolding went_of
 packed-to number count h =
     let low : (count * pack_base + number) % pack_base ≡ number = omega (arith, h.0) in
     let high : (count * pack_base + number) / pack_base ≡ count = omega (arith, h.0) in
     rw (ne_eqb (count * pack_base + number) 0 (λ e. omega (arith, h.1)), low, high)
 
-pub word-full : (r : ℕ) → r ≡ 0 → went_of r ≡ Full
+pub word-full : (r : ℕ) → r ≡ 0 → went_of r ≡ None
 unfolding went_of
 word-full r e = rw e
 
-pub word-to : (r : ℕ) → (r ≡ 0 → ⊥) → went_of r ≡ To (r % pack_base) (r / pack_base)
+pub word-to : (r : ℕ) → (r ≡ 0 → ⊥) → went_of r ≡ Some ((r % pack_base), (r / pack_base))
 unfolding went_of
 word-to r f = rw (ne_eqb r 0 f)
 
 module _ {ws heads : List ℕ} {limit count k label first second : ℕ} where
   pub add_none : count ≡ limit → Entered ws heads limit count k label first second (went_of 0) ws heads
-  add_none e = subst (λ (z : Went). Entered ws heads limit count k label first second z ws heads) (sym (word-full 0 refl)) (add-full e)
+  add_none e = subst (λ (z : Option (ℕ × ℕ)). Entered ws heads limit count k label first second z ws heads) (sym (word-full 0 refl)) (add-full e)
 
-  pub add-answer : {b link : ℕ} {z : Went} → Index ws heads limit count → (count ≡ limit → ⊥) → (b ≡ hash_of k) × (b < buckets) → link ≡ get_or heads b 0
-      → z ≡ To count (count + 1)
+  pub add-answer : {b link : ℕ} {z : Option (ℕ × ℕ)} → Index ws heads limit count → (count ≡ limit → ⊥) → (b ≡ hash_of k) × (b < buckets) → link ≡ get_or heads b 0
+      → z ≡ Some (count, (count + 1))
       → Entered ws heads limit count k label first second z
       (set (set (set (set (set ws (count * 5) k) (count * 5 + 1) link) (count * 5 + 2) label) (count * 5 + 3) first) (count * 5 + 4) second)
       (set heads b (count + 1))
   add-answer {b} {link} t f h d e =
-      subst (λ (w : Went). Entered ws heads limit count k label first second w
+      subst (λ (w : Option (ℕ × ℕ)). Entered ws heads limit count k label first second w
       (set (set (set (set (set ws (count * 5) k) (count * 5 + 1) link) (count * 5 + 2) label) (count * 5 + 3) first) (count * 5 + 4) second)
       (set heads b (count + 1))) (sym e) (add-to t f h d)
 
--- the ways out of `lower`
-pub lower-second : {a b : ℕ} {r : Bool} → Compared b a r → r ≡ true → b ≡ lesser a b
-lower-second {a} {b} q e = sym (lesser-gt a b (compared-less b a q e))
-
-pub lower-first : {a b : ℕ} {r : Bool} → Compared b a r → r ≡ false → a ≡ lesser a b
-lower-first {a} {b} q e = sym (lesser-le a b (compared-not b a q e))
-
--- the way out of `absorbs` in a product
-pub absorbs-product : (op : Operation) (v : ℕ) → op ≡ Product → eqb v 0 ≡ absorbs op v
-absorbs-product op v e = rw e
+-- the lower of two labels
+pub lower-is : (a b : ℕ) → min a b ≡ lesser a b
+lower-is a b = go (cmp a b)
+  where
+    go : Cmp a b → min a b ≡ lesser a b
+    go (below h) = omega (arith, lesser-le a b (omega arith))
+    go (equal h) = omega (arith, lesser-le a b (omega arith))
+    go (above h) = omega (arith, lesser-gt a b h)
 
 -- the ways out of `ends` and `pair_label`
 module _ (op : Operation) (x y : List ℕ) (i j : ℕ) where
-  pub ends-leaves : get_or x (i * 3) 0 ≡ leaf_mark → get_or y (j * 3) 0 ≡ leaf_mark → true ≡ is_end op x y (i, j)
+  pub ends-leaves : get_or x (i * 3) 0 ≡ leaf_mark → get_or y (j * 3) 0 ≡ leaf_mark → eqb (get_or y (j * 3) 0) leaf_mark ≡ is_end op x y (i, j)
   unfolding is_end label_at
   ends-leaves e d = rw (eq-eqb (get_or x (i * 3) 0) leaf_mark e, eq-eqb (get_or y (j * 3) 0) leaf_mark d)
 
@@ -166,16 +163,16 @@ module _ (op : Operation) (x y : List ℕ) (i j : ℕ) where
   unfolding is_end label_at high_at
   ends-second f d b = rw (ne_eqb (get_or x (i * 3) 0) leaf_mark f, eq-eqb (get_or y (j * 3) 0) leaf_mark d) b
 
-  pub ends-not : (get_or x (i * 3) 0 ≡ leaf_mark → ⊥) → (get_or y (j * 3) 0 ≡ leaf_mark → ⊥) → false ≡ is_end op x y (i, j)
+  pub ends-not : (get_or x (i * 3) 0 ≡ leaf_mark → ⊥) → (get_or y (j * 3) 0 ≡ leaf_mark → ⊥) → eqb (get_or y (j * 3) 0) leaf_mark ≡ is_end op x y (i, j)
   unfolding is_end label_at
   ends-not f g = rw (ne_eqb (get_or x (i * 3) 0) leaf_mark f, ne_eqb (get_or y (j * 3) 0) leaf_mark g)
 
   pub label-end : {b : Bool} → b ≡ is_end op x y (i, j) → b ≡ true → leaf_mark ≡ pair_label op x y (i, j)
   label-end e t = sym (end-label op x y (i, j) (sym e ∙ t))
 
-  pub label-lower : {b : Bool} {l : ℕ} → b ≡ is_end op x y (i, j) → b ≡ false → l ≡ lesser (get_or x (i * 3) 0) (get_or y (j * 3) 0) → l ≡ pair_label op x y (i, j)
+  pub label-lower : {b : Bool} {l : ℕ} → b ≡ is_end op x y (i, j) → b ≡ false → l ≡ min (get_or x (i * 3) 0) (get_or y (j * 3) 0) → l ≡ pair_label op x y (i, j)
   unfolding label_at
-  label-lower e t l = l ∙ sym (lower-label op x y (i, j) (sym e ∙ t))
+  label-lower e t l = l ∙ lower-is _ _ ∙ sym (lower-label op x y (i, j) (sym e ∙ t))
 
 -- the ways out of `successors`
 module _ (x y : List ℕ) (i j : ℕ) where

@@ -21,21 +21,21 @@ use Rattle.plan.specs.WalkLaws.{mem-at, mem-nowhere, place-one, end-label, branc
 use Rattle.plan.specs.WalkLaws.{walked-old, walked_end, walked-branch, walked-begins, walked-fresh, walked-root}
 use Rattle.plan.specs.Plan.{key_count, key_of, pair_of, hash_of, key_at, put_entry, Index, origin, Entry, Plan, Touched, went_to, pack_base, Ready, Planned, pairs_at, Reached, Overrun, Visited, Entered}
 use Rattle.plan.specs.PlanLaws.{pair-of-key, key_one, length_pairs, plan-pairs, plan-added, index-touched}
-use Rattle.plan.specs.declared.Went.{Went}
-use Rattle.plan.specs.declared.Went.TheVariants.{To, Full}
+use Rattle.std.specs.Prelude.{None, Option, Some}
 
 -- the two answers
 module _ {op : Operation} {x y ws heads : List ℕ} {limit : ℕ} {p : Pair} {ps : List Pair} where
-  visited-to : {number count : ℕ} → Reached op x y limit p ps number count ws heads → Visited op x y limit p ps (To number count) ws heads
+  visited-to : {number count : ℕ} → Reached op x y limit p ps number count ws heads → Visited op x y limit p ps (Some (number, count)) ws heads
   visited-to {number} {count} r = record {
     to = λ a b q.
-        let u : number ≡ a = cc in
-        let v : count ≡ b = cc in
+        let z : ◌≡◌ {A = ℕ × ℕ} (number, count) (a, b) = cc in
+        let u : number ≡ a = ap (λ (p : ℕ × ℕ). p.0) z in
+        let v : count ≡ b = ap (λ (p : ℕ × ℕ). p.1) z in
         subst (λ (m : ℕ). Reached op x y limit p ps m b ws heads) u (subst (λ (n : ℕ). Reached op x y limit p ps number n ws heads) v r);
     full = λ q. absurd (let z : ◌≡◌ {A = ℕ} 0 1 = cc in omega arith);
   }
 
-  visited-full : Overrun limit ps ws heads → Visited op x y limit p ps Full ws heads
+  visited-full : Overrun limit ps ws heads → Visited op x y limit p ps None ws heads
   visited-full o = record { to = λ a b q. absurd (let z : ◌≡◌ {A = ℕ} 0 1 = cc in omega arith); full = λ q. o }
 
 -- the plan with the entry that `add` wrote, or none
@@ -43,7 +43,7 @@ module _ (op : Operation) (x y ws heads : List ℕ) (limit : ℕ) (ps : List Pai
     (new : mem same_pair p ps ≡ false) (label first second : ℕ) (Label-is : label ≡ pair_label op x y p)
     (end_is : is_end op x y p ≡ true → (first ≡ high_at x p.0) × (second ≡ high_at y p.1))
     (branch-is : is_end op x y p ≡ false → (first < length ps) × (second < length ps) × (get_or ps first origin ≡ on_high x y p) × (get_or ps second origin ≡ on_low x y p)) where
-  entered : (z : Went) (ws' heads' : List ℕ) → Entered ws heads limit (length ps) (key_of p) label first second z ws' heads' → Visited op x y limit p (ps ++ (p ∷ [])) z ws' heads'
+  entered : (z : Option (ℕ × ℕ)) (ws' heads' : List ℕ) → Entered ws heads limit (length ps) (key_of p) label first second z ws' heads' → Visited op x y limit p (ps ++ (p ∷ [])) z ws' heads'
   entered z ws' heads' e = record {
     to = λ a b q. reached a b (e.to a b q);
     full = λ q. overrun (e.full q);
@@ -73,7 +73,7 @@ module _ (op : Operation) (x y ws heads : List ℕ) (limit : ℕ) (ps : List Pai
       }
 
   -- the same, with the count and the key by their equations
-  pub entered_at : {n k : ℕ} {z : Went} {ws' heads' : List ℕ} → length ps ≡ n → k ≡ key_of p → Entered ws heads limit n k label first second z ws' heads'
+  pub entered_at : {n k : ℕ} {z : Option (ℕ × ℕ)} {ws' heads' : List ℕ} → length ps ≡ n → k ≡ key_of p → Entered ws heads limit n k label first second z ws' heads'
       → Visited op x y limit p (ps ++ (p ∷ [])) z ws' heads'
   entered_at {n} {k} {z} {ws'} {heads'} c d e =
       entered z ws' heads'
@@ -100,7 +100,7 @@ module _ {op : Operation} {x y ws heads : List ℕ} {limit count i j : ℕ} (r :
 
   -- the search for the pair
   module _ {k at : ℕ} (key : (k ≡ key_of (i, j)) × (k < key_count)) (found : at ≡ prev (key_at ws) k count) where
-    visit-old : (at ≡ 0 → ⊥) → Visited op x y limit (i, j) (walked op x y (i, j) (pairs_at ws count)) (To (at - 1) count) ws heads
+    visit-old : (at ≡ 0 → ⊥) → Visited op x y limit (i, j) (walked op x y (i, j) (pairs_at ws count)) (Some ((at - 1), count)) ws heads
     visit-old n = visited-to (record {
       less = l;
       count-is = ap length w ∙ length_pairs ws count;
@@ -128,8 +128,8 @@ module _ {op : Operation} {x y ws heads : List ℕ} {limit count i j : ℕ} (r :
     visit-packable n = let i = ready-index in
         (omega (arith, prev-le (key_at ws) k count, i.within, i.small), omega (arith, prev-le (key_at ws) k count), omega (arith, i.within, i.small))
 
-    pub visit-answer : {z : Went} → (at ≡ 0 → ⊥) → z ≡ To (at - 1) count → Visited op x y limit (i, j) (walked op x y (i, j) (pairs_at ws count)) z ws heads
-    visit-answer n e = subst (λ (w : Went). Visited op x y limit (i, j) (walked op x y (i, j) (pairs_at ws count)) w ws heads) (sym e) (visit-old n)
+    pub visit-answer : {z : Option (ℕ × ℕ)} → (at ≡ 0 → ⊥) → z ≡ Some ((at - 1), count) → Visited op x y limit (i, j) (walked op x y (i, j) (pairs_at ws count)) z ws heads
+    visit-answer n e = subst (λ (w : Option (ℕ × ℕ)). Visited op x y limit (i, j) (walked op x y (i, j) (pairs_at ws count)) w ws heads) (sym e) (visit-old n)
 
     pub visit-new : at ≡ 0 → mem same_pair (i, j) (pairs_at ws count) ≡ false
     visit-new z = mem-nowhere origin (i, j) (pairs_at ws count)
@@ -152,7 +152,7 @@ module _ {op : Operation} {x y ws heads : List ℕ} {limit count i j : ℕ} (r :
         go (is_true h) = absurd (f (Label-is ∙ end-label op x y (i, j) h))
         go (is_false h) = h
 
-    pub below_end : {k : ℕ} {z : Went} {ws' heads' : List ℕ} → l ≡ leaf_mark → (k ≡ key_of (i, j)) × (k < key_count)
+    pub below_end : {k : ℕ} {z : Option (ℕ × ℕ)} {ws' heads' : List ℕ} → l ≡ leaf_mark → (k ≡ key_of (i, j)) × (k < key_count)
         → Entered ws heads limit count k l (get_or x (i * 3 + 1) 0) (get_or y (j * 3 + 1) 0) z ws' heads'
         → Visited op x y limit (i, j) (walked op x y (i, j) (pairs_at ws count)) z ws' heads'
     unfolding high_at
@@ -205,8 +205,8 @@ module _ {op : Operation} {x y ws heads : List ℕ} {limit count i j : ℕ} (r :
         pub high-ready : Ready op x y ws heads limit count (pair_of h)
         high-ready = record { leading = subst (Leading x y) (sym high_is) (high-leading op x y (i, j) r.leading (is-branch branch)); plan = r.plan }
 
-        module _ {z : Went} {ws₁ heads₁ : List ℕ} (v : Visited op x y limit (pair_of h) (walked op x y (pair_of h) (pairs_at ws count)) z ws₁ heads₁) where
-          pub high-full : z ≡ Full → Visited op x y limit (i, j) (walked op x y (i, j) (pairs_at ws count)) Full ws₁ heads₁
+        module _ {z : Option (ℕ × ℕ)} {ws₁ heads₁ : List ℕ} (v : Visited op x y limit (pair_of h) (walked op x y (pair_of h) (pairs_at ws count)) z ws₁ heads₁) where
+          pub high-full : z ≡ None → Visited op x y limit (i, j) (walked op x y (i, j) (pairs_at ws count)) None ws₁ heads₁
           unfolding us vs
           high-full e = visited-full (record {
             many =
@@ -215,7 +215,7 @@ module _ {op : Operation} {x y ws heads : List ℕ} {limit count i j : ℕ} (r :
             touched = (v.full e).touched;
           })
 
-          module _ {t n : ℕ} (to : z ≡ To t n) where
+          module _ {t n : ℕ} (to : z ≡ Some (t, n)) where
             high-reached : Reached op x y limit (on_high x y (i, j)) us t n ws₁ heads₁
             unfolding us
             high-reached = subst (λ (q : Pair). Reached op x y limit q (walked op x y q (pairs_at ws count)) t n ws₁ heads₁) high_is (v.to t n to)
@@ -229,17 +229,17 @@ module _ {op : Operation} {x y ws heads : List ℕ} {limit count i j : ℕ} (r :
               plan = subst (Plan op x y ws₁ heads₁ limit) (sym pairs-high) high-reached.plan;
             }
 
-            module _ {z₂ : Went} {ws₂ heads₂ : List ℕ} (v₂ : Visited op x y limit (pair_of o) (walked op x y (pair_of o) (pairs_at ws₁ n)) z₂ ws₂ heads₂) where
+            module _ {z₂ : Option (ℕ × ℕ)} {ws₂ heads₂ : List ℕ} (v₂ : Visited op x y limit (pair_of o) (walked op x y (pair_of o) (pairs_at ws₁ n)) z₂ ws₂ heads₂) where
               low-visited : Visited op x y limit (on_low x y (i, j)) vs z₂ ws₂ heads₂
               unfolding us vs
               low-visited =
                   subst (λ (qs : List Pair). Visited op x y limit (on_low x y (i, j)) (walked op x y (on_low x y (i, j)) qs) z₂ ws₂ heads₂) pairs-high
                   (subst (λ (q : Pair). Visited op x y limit q (walked op x y q (pairs_at ws₁ n)) z₂ ws₂ heads₂) low-is v₂)
 
-              pub low-full : z₂ ≡ Full → Visited op x y limit (i, j) (walked op x y (i, j) (pairs_at ws count)) Full ws₂ heads₂
+              pub low-full : z₂ ≡ None → Visited op x y limit (i, j) (walked op x y (i, j) (pairs_at ws count)) None ws₂ heads₂
               low-full e = visited-full (record { many = omega (arith, after-length, (low-visited.full e).many); touched = (low-visited.full e).touched })
 
-              module _ {f m : ℕ} (to₂ : z₂ ≡ To f m) where
+              module _ {f m : ℕ} (to₂ : z₂ ≡ Some (f, m)) where
                 low-reached : Reached op x y limit (on_low x y (i, j)) vs f m ws₂ heads₂
                 low-reached = low-visited.to f m to₂
 
@@ -254,7 +254,7 @@ module _ {op : Operation} {x y ws heads : List ℕ} {limit count i j : ℕ} (r :
                 unfolding us vs
                 first-is = prefix-get_d (walked-begins op x y (on_low x y (i, j)) us) t origin (omega (arith, high-reached.less, high-reached.count-is)) ∙ high-reached.number_is
 
-                pub below-branch : {k : ℕ} {z₃ : Went} {ws₃ heads₃ : List ℕ} → (k ≡ key_of (i, j)) × (k < key_count) → Entered ws₂ heads₂ limit m k l t f z₃ ws₃ heads₃
+                pub below-branch : {k : ℕ} {z₃ : Option (ℕ × ℕ)} {ws₃ heads₃ : List ℕ} → (k ≡ key_of (i, j)) × (k < key_count) → Entered ws₂ heads₂ limit m k l t f z₃ ws₃ heads₃
                     → Visited op x y limit (i, j) (walked op x y (i, j) (pairs_at ws count)) z₃ ws₃ heads₃
                 unfolding vs
                 below-branch {k} {z₃} {ws₃} {heads₃} key a =
@@ -282,36 +282,36 @@ unfolding pairs_at
 walk-new ws p = refl
 
 -- the answer, where the pairs are few enough, and where not
-went-few : (limit : ℕ) (ps : List Pair) → length ps ≤ limit → went_to limit ps ≡ To (length ps - 1) (length ps)
+went-few : (limit : ℕ) (ps : List Pair) → length ps ≤ limit → went_to limit ps ≡ Some ((length ps - 1), (length ps))
 unfolding went_to
 went-few limit ps h = rw (le-leb (length ps) limit h)
 
-went-many : (limit : ℕ) (ps : List Pair) → limit < length ps → went_to limit ps ≡ Full
+went-many : (limit : ℕ) (ps : List Pair) → limit < length ps → went_to limit ps ≡ None
 unfolding went_to
 went-many limit ps h = rw (lt-leb (length ps) limit h)
 
-planned : (op : Operation) (x y : List ℕ) (limit : ℕ) (p : Pair) → Leading x y p → (z : Went) (ws heads : List ℕ) → Visited op x y limit p (walked op x y p []) z ws heads
+planned : (op : Operation) (x y : List ℕ) (limit : ℕ) (p : Pair) → Leading x y p → (z : Option (ℕ × ℕ)) (ws heads : List ℕ) → Visited op x y limit p (walked op x y p []) z ws heads
     → Planned op x y limit (walked op x y p []) z ws heads
-planned op x y limit p a (To k n) ws heads v =
+planned op x y limit p a (Some (k, n)) ws heads v =
     let r : Reached op x y limit p (walked op x y p []) k n ws heads = v.to k n refl in
     let few : length (walked op x y p []) ≤ limit = r.plan.index.within in
     let is : k ≡ length (walked op x y p []) - 1 =
     place-one origin (walked op x y p []) r.plan.apart k (length (walked op x y p []) - 1) (omega (arith, r.less, r.count-is))
     (omega (arith, (walked-root op x y p a origin).0)) (r.number_is ∙ sym (walked-root op x y p a origin).1) in
     record {
-      answer = ap (λ (m : ℕ). To m n) is ∙ ap (To (length (walked op x y p []) - 1)) (sym r.count-is) ∙ sym (went-few limit (walked op x y p []) few);
+      answer = ap (λ (m : ℕ). Some (m, n)) is ∙ ap (λ u. Some ((length (walked op x y p []) - 1), u)) (sym r.count-is) ∙ sym (went-few limit (walked op x y p []) few);
       plan = λ h. r.plan;
       touched = λ h. absurd (omega arith);
     }
-planned op x y limit p a Full ws heads v =
+planned op x y limit p a None ws heads v =
     let o : Overrun limit (walked op x y p []) ws heads = v.full refl in
     record { answer = sym (went-many limit (walked op x y p []) o.many); plan = λ h. absurd (omega (arith, o.many)); touched = λ h. o.touched }
 
-pub walk-out : (ws : List ℕ) {op : Operation} {x y ws' heads' : List ℕ} {limit i j k : ℕ} {z w : Went} → Leading x y (i, j) → (k ≡ key_of (i, j)) × (k < key_count) → w ≡ z
+pub walk-out : (ws : List ℕ) {op : Operation} {x y ws' heads' : List ℕ} {limit i j k : ℕ} {z w : Option (ℕ × ℕ)} → Leading x y (i, j) → (k ≡ key_of (i, j)) × (k < key_count) → w ≡ z
     → Visited op x y limit (pair_of k) (walked op x y (pair_of k) (pairs_at ws 0)) w ws' heads'
     → Planned op x y limit (walked op x y (i, j) []) z ws' heads'
 unfolding pairs_at
 walk-out ws {op} {x} {y} {ws'} {heads'} {limit} {i} {j} {k} {z} {w} a d e v =
     planned op x y limit (i, j) a z ws' heads'
-    (subst (λ (t : Went). Visited op x y limit (i, j) (walked op x y (i, j) []) t ws' heads') e
+    (subst (λ (t : Option (ℕ × ℕ)). Visited op x y limit (i, j) (walked op x y (i, j) []) t ws' heads') e
     (subst (λ (q : Pair). Visited op x y limit q (walked op x y q []) w ws' heads') (at_key (i, j) (walk-few a).1 d.0) v))

@@ -6,9 +6,8 @@ use Rattle.table.specs.Table.{most_indexed}
 use Rattle.diagram.specs.Sizes.{space_rows}
 use Rattle.diagram.specs.Words.{high_at}
 use Rattle.apply.specs.declared.Operation.{Operation}
-use Rattle.plan.specs.declared.Went.{Went}
-use Rattle.plan.specs.declared.Went.TheVariants.{To, Full}
 use Rattle.plan.specs.Walk.{Pair, same_pair, is_end, pair_label, on_high, on_low, Leading}
+use Rattle.std.specs.Prelude.{None, Option, Some}
 
 -- the number of buckets of the index
 abbrev pub buckets : ℕ
@@ -107,18 +106,18 @@ pub record Touched (ws heads : List ℕ) (count : ℕ) : Type 0 where
   pub others : (b : ℕ) → b < buckets → ((k : ℕ) → k < count → hash_at ws k ≡ b → ⊥) → get_or heads b 0 ≡ 0
 
 -- the answer of a walk that finishes the pairs ps, the root last: its number and how many they are, or that they are more than `limit`
-unfoldable pub went_to : ℕ → List Pair → Went
-went_to limit ps = cond (leb (length ps) limit) (To (length ps - 1) (length ps)) Full
+unfoldable pub went_to : ℕ → List Pair → Option (ℕ × ℕ)
+went_to limit ps = cond (leb (length ps) limit) (Some ((length ps - 1), (length ps))) None
 
 -- the same in one word: a pair's number below 2^16, the count of pairs above it; 0 says that they are too many
 abbrev pub pack_base : ℕ
 pack_base = 65536
 
-unfoldable pub went_of : ℕ → Went
-went_of r = cond (eqb r 0) Full (To (r % pack_base) (r / pack_base))
+unfoldable pub went_of : ℕ → Option (ℕ × ℕ)
+went_of r = cond (eqb r 0) None (Some ((r % pack_base), (r / pack_base)))
 
 -- what `walk` ensures, ps being the pairs of the walk: the answer, the plan of these pairs, and, where they are too many, that the index can be cleared
-pub record Planned (op : Operation) (x y : List ℕ) (limit : ℕ) (ps : List Pair) (r : Went) (ws heads : List ℕ) : Type 0 where
+pub record Planned (op : Operation) (x y : List ℕ) (limit : ℕ) (ps : List Pair) (r : Option (ℕ × ℕ)) (ws heads : List ℕ) : Type 0 where
   pub answer : r ≡ went_to limit ps
   pub plan : length ps ≤ limit → Plan op x y ws heads limit ps
   pub touched : limit < length ps → Touched ws heads limit
@@ -144,14 +143,14 @@ pub record Overrun (limit : ℕ) (ps : List Pair) (ws heads : List ℕ) : Type 0
   pub many : limit < length ps
   pub touched : Touched ws heads limit
 
-pub record Visited (op : Operation) (x y : List ℕ) (limit : ℕ) (p : Pair) (ps : List Pair) (r : Went) (ws heads : List ℕ) : Type 0 where
-  pub to : (number count : ℕ) → r ≡ To number count → Reached op x y limit p ps number count ws heads
-  pub full : r ≡ Full → Overrun limit ps ws heads
+pub record Visited (op : Operation) (x y : List ℕ) (limit : ℕ) (p : Pair) (ps : List Pair) (r : Option (ℕ × ℕ)) (ws heads : List ℕ) : Type 0 where
+  pub to : (number count : ℕ) → r ≡ Some (number, count) → Reached op x y limit p ps number count ws heads
+  pub full : r ≡ None → Overrun limit ps ws heads
 
 -- what `add` ensures: an entry at the end, or that there is no room
-pub record Entered (ws heads : List ℕ) (limit count key label first second : ℕ) (r : Went) (ws' heads' : List ℕ) : Type 0 where
-  pub to : (number n : ℕ) → r ≡ To number n
+pub record Entered (ws heads : List ℕ) (limit count key label first second : ℕ) (r : Option (ℕ × ℕ)) (ws' heads' : List ℕ) : Type 0 where
+  pub to : (number n : ℕ) → r ≡ Some (number, n)
       → (number ≡ count) × (n ≡ count + 1) × (count < limit)
       × (ws' ≡ put_entry ws count key (get_or heads (hash_of key) 0) label first second)
       × (heads' ≡ set heads (hash_of key) (count + 1))
-  pub full : r ≡ Full → (count ≡ limit) × (ws' ≡ ws) × (heads' ≡ heads)
+  pub full : r ≡ None → (count ≡ limit) × (ws' ≡ ws) × (heads' ≡ heads)

@@ -6,9 +6,9 @@ ghost use Rattle.basics.specs.Members.{mem};
 ghost use Rattle.table.specs.Chains.{prev};
 ghost use Rattle.diagram.specs.Sizes.{space_rows};
 ghost use Rattle.apply.specs.Pairs.{absorbs};
-ghost use Rattle.plan.specs.Walk.{same_pair, is_end, lesser, pair_label, on_high, on_low, walked, Leading};
+ghost use Rattle.plan.specs.Walk.{same_pair, is_end, pair_label, on_high, on_low, walked, Leading};
 ghost use Rattle.plan.specs.Plan.{buckets, key_count, key_of, pair_of, hash_of, key_at, Index, Clean, Touched, Ready, Planned, pack_base, went_of, pairs_at, Visited, Entered};
-ghost use Rattle.plan.specs.declared.Went.TheVariants.{To};
+ghost use Rattle.std.specs.Prelude.{Some};
 
 use apply::Operation;
 use label::Label;
@@ -23,13 +23,6 @@ const LEAF: u64 = Label::LEAF;
 const PACK_BASE: usize = 65536;
 // The packed answer where the pairs are too many.
 const FULL: usize = 0;
-
-// The number of a pair in the plan and of the pairs there, or that they are too many.
-#[derive(Clone, Copy)]
-pub enum Went {
-    To(usize, usize),
-    Full,
-}
 
 // The rows of a pair's two successors: (hi, hj) on high, (li, lj) on low.
 #[derive(Clone, Copy)]
@@ -56,16 +49,6 @@ fn hash(k: u64) -> usize
     ((k * 2654435769 / 65536) as usize) % BUCKETS
 }
 
-// The lower of two labels.
-fn lower(a: u64, b: u64) -> u64
-    ensures { result ≡ lesser a b }
-{
-    if label::before(b, a) {
-        return b;
-    }
-    a
-}
-
 // One more than the number of the entry with the key, or 0.
 fn find(plan: &[u64], heads: &[u16], limit: usize, count: usize, k: u64) -> usize
     requires index { Index plan.now heads.now limit count }
@@ -89,9 +72,8 @@ fn absorbs(op: Operation, value: u64) -> bool
     ensures { result ≡ absorbs op value }
 {
     match op {
-        Operation::Sum => false,
         Operation::Product => value == 0,
-        Operation::Max => false,
+        _ => false,
     }
 }
 
@@ -103,15 +85,10 @@ fn ends(x: &[u64], y: &[u64], i: usize, j: usize, op: Operation) -> bool
     let a = x[i * 3];
     let b = y[j * 3];
     if a == LEAF {
-        if b == LEAF {
-            return true;
-        }
-        return absorbs(op, x[i * 3 + 1]);
+        b == LEAF || absorbs(op, x[i * 3 + 1])
+    } else {
+        b == LEAF && absorbs(op, y[j * 3 + 1])
     }
-    if b == LEAF {
-        return absorbs(op, y[j * 3 + 1]);
-    }
-    false
 }
 
 // A leaf's mark where a pair ends, or the label by which it goes down.
@@ -120,9 +97,10 @@ fn pair_label(x: &[u64], y: &[u64], i: usize, j: usize, op: Operation) -> u64
     ensures { result ≡ pair_label op x.now y.now (i, j) }
 {
     if ends(x, y, i, j, op) {
-        return LEAF;
+        LEAF
+    } else {
+        x[i * 3].min(y[j * 3])
     }
-    lower(x[i * 3], y[j * 3])
 }
 
 // The successors of a pair, all read before anything is stored.
@@ -159,7 +137,7 @@ fn successors(x: &[u64], y: &[u64], i: usize, j: usize) -> Ways
 // The number of a pair in the plan and of the pairs there, in one word: it comes back from each inner call in a register.
 fn packed(number: usize, count: usize) -> usize
     requires { (number < pack_base) × (0 < count) × (count < pack_base) }
-    ensures { went_of result ≡ To number count }
+    ensures { went_of result ≡ Some (number, count) }
 {
     count * PACK_BASE + number
 }
@@ -209,9 +187,10 @@ fn visit(
 {
     let at = find(plan, heads, limit, count, k);
     if at != 0 {
-        return packed(at - 1, count);
+        packed(at - 1, count)
+    } else {
+        below(x, y, plan, heads, limit, count, k, op)
     }
-    below(x, y, plan, heads, limit, count, k, op)
 }
 
 // Walks from the pair of a key that is not in the plan.
@@ -249,12 +228,13 @@ fn below(
         return FULL;
     }
     let m = low / PACK_BASE;
-    let t = high % PACK_BASE;
-    let f = low % PACK_BASE;
-    add(plan, heads, limit, m, k, l, t as u64, f as u64)
+    let t = (high % PACK_BASE) as u64;
+    let f = (low % PACK_BASE) as u64;
+    add(plan, heads, limit, m, k, l, t, f)
 }
 
-// Walks the pairs of an operation on two row spaces from row i of x and row j of y, and writes their plan. The index must be clean, and is in use after.
+// Walks the pairs of an operation on two row spaces from row i of x and row j of y, and writes their plan. The index must be clean, and is in use after. Answers the number of the
+// first pair in the plan and how many pairs stand there, or None where they are too many.
 pub fn walk(
     x: &[u64],
     y: &[u64],
@@ -264,7 +244,7 @@ pub fn walk(
     i: usize,
     j: usize,
     op: Operation,
-) -> Went
+) -> Option<(usize, usize)>
     requires leading { Leading x.now y.now (i, j) }
     requires index { Index plan.old heads.old limit 0 }
     ensures { Planned op x.now y.now limit (walked op x.now y.now (i, j) []) result plan.new heads.new }
@@ -272,9 +252,10 @@ pub fn walk(
     let k = key(i, j);
     let r = below(x, y, plan, heads, limit, 0, k, op);
     if r == FULL {
-        return Went::Full;
+        None
+    } else {
+        Some((r % PACK_BASE, r / PACK_BASE))
     }
-    Went::To(r % PACK_BASE, r / PACK_BASE)
 }
 
 // Empties the index of the first count entries: clears the buckets that they touched.
@@ -283,10 +264,8 @@ pub fn clear(plan: &[u64], heads: &mut [u16], count: usize)
     ensures heads_len_unchanged { length heads.new ≡ length heads.old }
     ensures clean { Clean heads.new }
 {
-    let mut i = 0;
-    while i < count {
+    for i in 0..count {
         let h = hash(plan[i * ENTRY_WORDS]);
         heads[h] = 0;
-        i += 1;
     }
 }

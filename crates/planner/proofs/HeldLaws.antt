@@ -38,15 +38,14 @@ use Rattle.mdp.proofs.StepLaws.{cut-done}
 use Rattle.model.specs.declared.Head.{Head}
 use Rattle.model.specs.Inner.{Laid}
 use Rattle.model.specs.Layout.{reward_words, model_of}
-use Rattle.steps.specs.declared.Step.TheVariants.{Rows}
-use Rattle.planner.specs.declared.Backed.{Backed}
-use Rattle.planner.specs.declared.Backed.TheVariants.{Done, Refused}
 use Rattle.planner.specs.declared.RunNumbers.{RunNumbers}
-use Rattle.steps.specs.Steps.{step_as, Result, Wrote}
+use Rattle.steps.specs.Steps.{step_as, ResultIn, Wrote}
 use Rattle.planner.specs.Backed.{Powered, backed_as, BackedUp}
 use Rattle.planner.specs.Tasks.{Standing}
 use Rattle.planner.specs.Inner.{Holds, Room, Callable, ReplaceTask, Takeable, Taken}
 use Rattle.steps.specs.GivenLaws.{wrote-given, result-few, fold-there, fold-given}
+use Rattle.std.specs.Prelude.{Err, Ok}
+use Rattle.std.specs.Prelude.{Result}
 
 -- two held values are equal by their parts
 same-held : {d e : Diagram} {j k : ℕ} → d ≡ e → j ≡ k → ◌≡◌ {A = Value} (record { diagram = d; steps = j }) (record { diagram = e; steps = k })
@@ -64,22 +63,24 @@ unfolding model_of scale
 callable-powered t c = record { steps = c.steps; is = c.power }
 
 -- its answer, read back
-backed : (power : ℕ) (o : Outcome Diagram) {n p : ℕ} → backed_as power o ≡ Done n p → (Rows n ≡ step_as o) × (power ≡ p)
-backed power (ok d) e = (ap Rows (cc), cc)
+backed : (power : ℕ) (o : Outcome Diagram) {n p : ℕ} → backed_as power o ≡ Ok (n, p) → (Ok n ≡ step_as o) × (power ≡ p)
+backed power (ok d) {n} {p} e =
+    let z : ◌≡◌ {A = ℕ × ℕ} (length (rows d), power) (n, p) = cc in
+    (ap Ok (sym (ap (λ (q : ℕ × ℕ). q.0) z)), ap (λ (q : ℕ × ℕ). q.1) z)
 backed power (refused x) e = let z : ◌≡◌ {A = ℕ} 0 1 = cc in absurd (omega arith)
 
-stopped : (power : ℕ) (o : Outcome Diagram) {x : Refusal} → backed_as power o ≡ Refused x → o ≡ refused x
+stopped : (power : ℕ) (o : Outcome Diagram) {x : Refusal} → backed_as power o ≡ Err x → o ≡ refused x
 stopped power (ok d) e = let z : ◌≡◌ {A = ℕ} 0 1 = cc in absurd (omega arith)
 stopped power (refused y) e = ap refused (cc)
 
-module _ {ar : List ℕ} {m : Model} {k : ℕ} {d : Diagram} {r : Backed} {value value' : List ℕ} (b : BackedUp ar m k d r value value') where
-  pub backup-result : {n p : ℕ} → r ≡ Done n p → Result ar (backup m k d) n value'
+module _ {ar : List ℕ} {m : Model} {k : ℕ} {d : Diagram} {r : Result (ℕ × ℕ) Refusal} {value value' : List ℕ} (b : BackedUp ar m k d r value value') where
+  pub backup-result : {n p : ℕ} → r ≡ Ok (n, p) → ResultIn ar (backup m k d) n value'
   backup-result {n} e = (wrote-given (record { answer = (backed (scale m ^ suc k) (backup m k d) (sym b.answer ∙ e)).0; words = b.words; good = b.good })).result n refl
 
-  pub backup-refused : {x : Refusal} → r ≡ Refused x → backup m k d ≡ refused x
+  pub backup-refused : {x : Refusal} → r ≡ Err x → backup m k d ≡ refused x
   backup-refused e = stopped (scale m ^ suc k) (backup m k d) (sym b.answer ∙ e)
 
-  pub backup-power : {n p : ℕ} → r ≡ Done n p → p ≡ scale m ^ suc k
+  pub backup-power : {n p : ℕ} → r ≡ Ok (n, p) → p ≡ scale m ^ suc k
   backup-power e = sym (backed (scale m ^ suc k) (backup m k d) (sym b.answer ∙ e)).1
 
 -- ===== A value replaced by what a call gives, k staying =====
@@ -88,12 +89,12 @@ module _ {ar : List ℕ} {h : RunNumbers} {value work : List ℕ} (t : ReplaceTa
   pub replace-long : h.rows * 3 ≡ length (take (h.rows * 3) value)
   replace-long = sym (length-take-le (h.rows * 3) value t.room)
 
-  module _ {o : Outcome Diagram} {n : ℕ} {out out' : List ℕ} (w : Wrote ar o (Rows n) out out') where
+  module _ {o : Outcome Diagram} {n : ℕ} {out out' : List ℕ} (w : Wrote ar o (Ok n) out out') where
     -- its rows are there to be copied, and there is room for them
     pub replace-copies : (n * 3 ≤ length out') × (n * 3 ≤ length value)
     replace-copies = (fold-there w refl, omega (arith, result-few ((wrote-given w).result n refl), t.value_room))
 
-    pub replace-result : {value' : List ℕ} → value' ≡ take (n * 3) out' ++ drop (n * 3) value → Result ar o n value'
+    pub replace-result : {value' : List ℕ} → value' ≡ take (n * 3) out' ++ drop (n * 3) value → ResultIn ar o n value'
     replace-result u = (fold-given w refl value u).result n refl
 
 -- ===== A cut =====
@@ -139,12 +140,12 @@ module _ {ar : List ℕ} {h : RunNumbers} {value work : List ℕ} (t : ReplaceTa
 
   module _ {q : Cut} (a : q ≡ diagram_answer ar (diagram_of (take (h.rows * 3) value))) where
     pub cut-wrote : (out : List ℕ) {out' : List ℕ} → out' ≡ answer_buffer ar (take (h.rows * 3) value) out q → {k : ℕ} {e : Edge} {n : ℕ} → q ≡ CutDone k e n
-        → Wrote ar (cut_outcome ar W) (Rows n) out out'
+        → Wrote ar (cut_outcome ar W) (Ok n) out out'
     unfolding answer_buffer written
     cut-wrote out w {k} {e} {n} d =
         let z = cut-done ar W k e n (sym a ∙ d) in
         record {
-          answer = ap Rows (sym (cut-rows ar W k e n (sym a ∙ d))) ∙ ap step_as (sym z);
+          answer = ap Ok (sym (cut-rows ar W k e n (sym a ∙ d))) ∙ ap step_as (sym z);
           words = w ∙ ap (answer_buffer ar (take (h.rows * 3) value) out) d ∙ ap (λ (o : Outcome Diagram). written_as o out) (sym z);
           good = cut_fits ar W (is-listing-good ar (take (h.rows * 3) value) t.listing);
         }

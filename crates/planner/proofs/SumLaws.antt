@@ -20,14 +20,13 @@ use Rattle.mdp.proofs.BackupLaws.{truths-good}
 use Rattle.model.specs.declared.Head.{Head}
 use Rattle.model.specs.Inner.{Laid}
 use Rattle.model.specs.Layout.{action_words, variant_place, variant_at, variants_of, action_at, model_of}
-use Rattle.steps.specs.declared.Step.{Step}
-use Rattle.steps.specs.declared.Step.TheVariants.{Rows, Refused}
 use Rattle.steps.specs.Steps.{Given, Begun, BufferListing}
 use Rattle.planner.specs.Parts.{variant_added, freed_up, action_value, action_tried}
 use Rattle.planner.specs.PartLaws.{many-every, sum_more, best-more, sum_fits}
 use Rattle.planner.specs.Tasks.{VariantTask, ValueTask, ActionTask, FreeUp}
 use Rattle.steps.specs.GivenLaws.{given-same, refused-then, done-then}
 use Rattle.steps.specs.FoldLaws.{Folded, folded_start, folded-begins, folded-stops, folded_on, folded-end}
+use Rattle.std.specs.Prelude.{Err, Ok, Result}
 
 -- ===== The sum over the variants =====
 
@@ -80,15 +79,15 @@ module _ {ar listings table : List ℕ} {a : ℕ} (t : ActionTask ar listings ta
     pub summing-begins : BufferListing ar n out
     summing-begins = folded-begins Summed D F (sum_more ar g (diagram_of value) (leaf 0)) x.folded
 
-    module _ {r : Step} {out' : List ℕ} (w : Given ar (variant_added ar g (diagram_of value) (diagram_of (take (n * 3) out)) (variant_at listings table (variant_place a v))) r out') where
-      pub summing-stops : {e : Refusal} → r ≡ Refused e → {out'' : List ℕ} → Given ar (variants_sum ar g (diagram_of value) (leaf 0) (action_at listings table a).variants) r out''
+    module _ {r : Result ℕ Refusal} {out' : List ℕ} (w : Given ar (variant_added ar g (diagram_of value) (diagram_of (take (n * 3) out)) (variant_at listings table (variant_place a v))) r out') where
+      pub summing-stops : {e : Refusal} → r ≡ Err e → {out'' : List ℕ} → Given ar (variants_sum ar g (diagram_of value) (leaf 0) (action_at listings table a).variants) r out''
       summing-stops h = given-same (ap Summed (sym variants-are)) (folded-stops Summed D F (sum_more ar g (diagram_of value) (leaf 0)) x.folded w h (variants_of table a) l)
 
-      pub summing_on : {m : ℕ} → r ≡ Rows m → Summing ar listings table a g value out' m (v + 1)
+      pub summing_on : {m : ℕ} → r ≡ Ok m → Summing ar listings table a g value out' m (v + 1)
       summing_on h = record { within = omega (arith, l); folded = folded_on Summed D F (sum_more ar g (diagram_of value) (leaf 0)) x.folded w h }
 
   pub summing-end : {out : List ℕ} {n v : ℕ} → Summing ar listings table a g value out n v → variants_of table a ≤ v
-      → Given ar (variants_sum ar g (diagram_of value) (leaf 0) (action_at listings table a).variants) (Rows n) out
+      → Given ar (variants_sum ar g (diagram_of value) (leaf 0) (action_at listings table a).variants) (Ok n) out
   summing-end {out} {n} {v} x h =
       let k = x.within in
       let e : variants_of table a ≡ v = omega arith in
@@ -110,11 +109,11 @@ module _ {ar listings table : List ℕ} {a : ℕ} (t : ActionTask ar listings ta
   unfolding action_at
   count-is = refl
 
-  module _ {r : Step} {sum : List ℕ} (x : Given ar Q r sum) where
-    pub action-stops : {e : Refusal} → r ≡ Refused e → {out : List ℕ} → Given ar A r out
+  module _ {r : Result ℕ Refusal} {sum : List ℕ} (x : Given ar Q r sum) where
+    pub action-stops : {e : Refusal} → r ≡ Err e → {out : List ℕ} → Given ar A r out
     action-stops h = refused-then (λ q. freed_up ar (action_at listings table a).count q) x h action-is
 
-    module _ {n : ℕ} (h : r ≡ Rows n) where
+    module _ {n : ℕ} (h : r ≡ Ok n) where
       pub action-freeup : FreeUp ar (take (n * 3) sum) (get_or table (a * action_words) 0) out₀
       action-freeup = subst (λ (c : ℕ). FreeUp ar (take (n * 3) sum) c out₀) count-is (record {
         listing = (x.result n h).listing;
@@ -125,7 +124,7 @@ module _ {ar listings table : List ℕ} {a : ℕ} (t : ActionTask ar listings ta
         out-room = u.out-room;
       })
 
-      pub action-given : {q : Step} {out' : List ℕ} → Given ar (freed_up ar (get_or table (a * action_words) 0) (diagram_of (take (n * 3) sum))) q out' → Given ar A q out'
+      pub action-given : {q : Result ℕ Refusal} {out' : List ℕ} → Given ar (freed_up ar (get_or table (a * action_words) 0) (diagram_of (take (n * 3) sum))) q out' → Given ar A q out'
       action-given w = given-same (
           ap (λ (c : ℕ). freed_up ar c (diagram_of (take (n * 3) sum))) (sym count-is)
           ∙ sym (done-then (λ q. freed_up ar (action_at listings table a).count q) (x.result n h) action-is)) w
@@ -176,17 +175,17 @@ module _ {ar listings table : List ℕ} {h : Head} (t : Laid ar listings table h
     pub trying-begins : BufferListing ar n out
     trying-begins = folded-begins G E (action_at listings table) (best-more ar h.numerator (diagram_of value) (leaf 0)) x.folded
 
-    module _ {r : Step} {out' : List ℕ} (w : Given ar (action_tried ar h.numerator (diagram_of value) (diagram_of (take (n * 3) out)) (action_at listings table a)) r out') where
-      pub trying-stops : {e : Refusal} → r ≡ Refused e → {out'' : List ℕ}
+    module _ {r : Result ℕ Refusal} {out' : List ℕ} (w : Given ar (action_tried ar h.numerator (diagram_of value) (diagram_of (take (n * 3) out)) (action_at listings table a)) r out') where
+      pub trying-stops : {e : Refusal} → r ≡ Err e → {out'' : List ℕ}
           → Given ar (actions_best ar h.numerator (diagram_of value) (leaf 0) (model_of ar listings table h).actions) r out''
       trying-stops k =
           given-same (ap G (sym actions-are)) (folded-stops G E (action_at listings table) (best-more ar h.numerator (diagram_of value) (leaf 0)) x.folded w k h.actions l)
 
-      pub trying-on : {m : ℕ} → r ≡ Rows m → Trying ar listings table h.actions h.numerator value out' m (a + 1)
+      pub trying-on : {m : ℕ} → r ≡ Ok m → Trying ar listings table h.actions h.numerator value out' m (a + 1)
       trying-on k = record { within = omega (arith, l); folded = folded_on G E (action_at listings table) (best-more ar h.numerator (diagram_of value) (leaf 0)) x.folded w k }
 
   pub trying-end : {out : List ℕ} {n a : ℕ} → Trying ar listings table h.actions h.numerator value out n a → h.actions ≤ a
-      → Given ar (actions_best ar h.numerator (diagram_of value) (leaf 0) (model_of ar listings table h).actions) (Rows n) out
+      → Given ar (actions_best ar h.numerator (diagram_of value) (leaf 0) (model_of ar listings table h).actions) (Ok n) out
   trying-end {out} {n} {a} x k =
       let y = x.within in
       let e : h.actions ≡ a = omega arith in

@@ -18,14 +18,13 @@ use Rattle.mdp.specs.Backup.{combined, actions_best, row_of_calls}
 use Rattle.model.specs.declared.Head.{Head}
 use Rattle.model.specs.Inner.{Laid}
 use Rattle.model.specs.Layout.{reward_words, model_of}
-use Rattle.steps.specs.declared.Step.{Step}
-use Rattle.steps.specs.declared.Step.TheVariants.{Rows, Refused}
 use Rattle.steps.specs.Steps.{step_as, Given, Wrote, Operands}
 use Rattle.planner.specs.Tasks.{ValueTask, RewardTask, Standing}
 use Rattle.steps.specs.GivenLaws.{step-refused}
 use Rattle.planner.proofs.FollowLaws.{first_done, both-done, both-operands}
+use Rattle.std.specs.Prelude.{Err, Ok, Result}
 
-pub wrote-refused : {ar : List ℕ} {o : Outcome Diagram} {e : Refusal} {out : List ℕ} → o ≡ refused e → Wrote ar o (Refused e) out out
+pub wrote-refused : {ar : List ℕ} {o : Outcome Diagram} {e : Refusal} {out : List ℕ} → o ≡ refused e → Wrote ar o (Err e) out out
 wrote-refused {ar} {o} {e} {out} h = record {
   answer = ap step_as (sym h);
   words = ap (λ (x : Outcome Diagram). written_as x out) (sym h);
@@ -33,11 +32,11 @@ wrote-refused {ar} {o} {e} {out} h = record {
 }
 
 -- a refusal is handed up, and the buffer stays
-pub wrote_then : {ar : List ℕ} {o p : Outcome Diagram} (f : Diagram → Outcome Diagram) {r : Step} {e : Refusal} {buffer out : List ℕ} → Given ar o r buffer → r ≡ Refused e
+pub wrote_then : {ar : List ℕ} {o p : Outcome Diagram} (f : Diagram → Outcome Diagram) {r : Result ℕ Refusal} {e : Refusal} {buffer out : List ℕ} → Given ar o r buffer → r ≡ Err e
     → p ≡ and_then o f → Wrote ar p r out out
 wrote_then {ar} {o} {p} f {r} {e} {buffer} {out} g h q =
     let k : o ≡ refused e = step-refused o e (sym g.answer ∙ h) in
-    subst (λ (x : Step). Wrote ar p x out out) (sym h) (wrote-refused (q ∙ ap (λ (x : Outcome Diagram). and_then x f) k))
+    subst (λ (x : Result ℕ Refusal). Wrote ar p x out out) (sym h) (wrote-refused (q ∙ ap (λ (x : Outcome Diagram). and_then x f) k))
 
 numerator-small : {ar listings table : List ℕ} {h : Head} → Laid ar listings table h → h.numerator ≤ highest_value
 unfolding model_of
@@ -78,17 +77,17 @@ module _ {ar listings table : List ℕ} {h : Head} (t : Laid ar listings table h
   unfolding row_of_calls model_of
   calls_are = refl
 
-  module _ {a : Step} {best : List ℕ} (x : Given ar B a best) where
-    pub calls-stop : {e : Refusal} → a ≡ Refused e → {out : List ℕ} → Wrote ar C a out out
+  module _ {a : Result ℕ Refusal} {best : List ℕ} (x : Given ar B a best) where
+    pub calls-stop : {e : Refusal} → a ≡ Err e → {out : List ℕ} → Wrote ar C a out out
     calls-stop k = wrote_then (λ best. and_then R (λ r. combined Sum Apart ar best r)) x k calls_are
 
-    module _ {n : ℕ} (k : a ≡ Rows n) {b : Step} {reward : List ℕ} (y : Given ar R b reward) where
-      pub calls-stop-2 : {e : Refusal} → b ≡ Refused e → {out : List ℕ} → Wrote ar C b out out
+    module _ {n : ℕ} (k : a ≡ Ok n) {b : Result ℕ Refusal} {reward : List ℕ} (y : Given ar R b reward) where
+      pub calls-stop-2 : {e : Refusal} → b ≡ Err e → {out : List ℕ} → Wrote ar C b out out
       calls-stop-2 l = wrote_then (λ r. combined Sum Apart ar (diagram_of (take (n * 3) best)) r) y l (first_done Sum Apart R calls_are x k)
 
-      module _ {m : ℕ} (l : b ≡ Rows m) where
+      module _ {m : ℕ} (l : b ≡ Ok m) where
         pub calls-operands : {work' : List ℕ} → length work' ≡ length work → Operands ar (take (n * 3) best) (take (m * 3) reward) value work'
         calls-operands = both-operands Sum Apart R calls_are x k y l u.value_room u.work-room
 
-        pub calls-wrote : {r : Step} {value' : List ℕ} → Wrote ar (combined Sum Apart ar (diagram_of (take (n * 3) best)) (diagram_of (take (m * 3) reward))) r value value' → Wrote ar C r value value'
+        pub calls-wrote : {r : Result ℕ Refusal} {value' : List ℕ} → Wrote ar (combined Sum Apart ar (diagram_of (take (n * 3) best)) (diagram_of (take (m * 3) reward))) r value value' → Wrote ar C r value value'
         calls-wrote {r} {value'} w = subst (λ (o : Outcome Diagram). Wrote ar o r value value') (sym (both-done Sum Apart R calls_are x k y l)) w

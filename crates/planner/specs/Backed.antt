@@ -8,20 +8,16 @@ use Rattle.regression.specs.RegressCall.{written_as}
 use Rattle.mdp.specs.Model.{Model, scale, most_total, most_denominator}
 use Rattle.mdp.specs.Backup.{highest_scale, most_steps, backup}
 use Rattle.model.specs.declared.Head.{Head}
-use Rattle.planner.specs.declared.Power.{Power}
-use Rattle.planner.specs.declared.Power.TheVariants.{Next, Ends}
-use Rattle.planner.specs.declared.Backed.{Backed}
-use Rattle.planner.specs.declared.Backed.TheVariants.{Done, Refused}
-use Rattle.steps.specs.declared.Step.{Step}
-use Rattle.steps.specs.declared.Step.TheVariants.{Rows, Refused as Stopped}
+use Rattle.refusal.specs.declared.Refusal.{Refusal}
+use Rattle.std.specs.Prelude.{Err, None, Ok, Option, Result, Some}
 
 -- S = W · D, of the numbers of a model
 abbrev pub scale_of : Head → ℕ
 scale_of h = h.total * h.denominator
 
 -- S^(k+1), or that it is above 10^18, or that k is 10^18
-unfoldable pub power_as : ℕ → ℕ → Power
-power_as s k = cond (ltb highest_scale (s ^ suc k) || eqb k most_steps) Ends (Next (s ^ suc k))
+unfoldable pub power_as : ℕ → ℕ → Option ℕ
+power_as s k = cond (ltb highest_scale (s ^ suc k) || eqb k most_steps) None (Some (s ^ suc k))
 
 -- a model's numbers are in their ranges
 pub record Numbers (h : Head) : Type 0 where
@@ -35,17 +31,17 @@ pub record Powered (h : Head) (k power : ℕ) : Type 0 where
   pub steps : k ≤ most_steps
   pub is : power ≡ scale_of h ^ k
 
-abbrev pub backed_as : ℕ → Outcome Diagram → Backed
-backed_as power (ok d) = Done (length (rows d)) power
-backed_as power (refused r) = Refused r
+abbrev pub backed_as : ℕ → Outcome Diagram → Result (ℕ × ℕ) Refusal
+backed_as power (ok d) = Ok ((length (rows d)), power)
+backed_as power (refused r) = Err r
 
 -- the answer of the calls of a backup, with S^(k+1), as that of the backup
-abbrev pub backed_step : ℕ → Step → Backed
-backed_step power (Rows n) = Done n power
-backed_step power (Stopped r) = Refused r
+abbrev pub backed_step : ℕ → Result ℕ Refusal → Result (ℕ × ℕ) Refusal
+backed_step power (Ok n) = Ok (n, power)
+backed_step power (Err r) = Err r
 
 -- the answer is the new value's rows and S^(k+1), and the buffer has its listing; a refusal changes nothing. What is accepted has a listing.
-pub record BackedUp (ar : List ℕ) (m : Model) (k : ℕ) (d : Diagram) (r : Backed) (value value' : List ℕ) : Type 0 where
+pub record BackedUp (ar : List ℕ) (m : Model) (k : ℕ) (d : Diagram) (r : Result (ℕ × ℕ) Refusal) (value value' : List ℕ) : Type 0 where
   pub answer : r ≡ backed_as (scale m ^ suc k) (backup m k d)
   pub words : value' ≡ written_as (backup m k d) value
   pub good : Accepted (Good ar) (backup m k d)

@@ -5,27 +5,11 @@ use Rattle.diagram.specs.Sizes.{highest_value, result_words, space_words}
 use Rattle.diagram.specs.Words.{is_listing}
 use Rattle.diagram.specs.Listing.{diagram_of}
 use Rattle.state.specs.State.{meaning}
-use Rattle.regression.specs.declared.Regressed.{Regressed}
-use Rattle.regression.specs.declared.Regressed.TheVariants.{Done as RegressedDone, Refused as NotRegressed}
-use Rattle.regression.specs.declared.Freed.{Freed}
-use Rattle.regression.specs.declared.Freed.TheVariants.{Done as FreedDone, Refused as NotFreed}
 use Rattle.regression.specs.Parameters.{Within, GoodTruths}
 use Rattle.mdp.specs.Model.{GoodAction}
 use Rattle.model.specs.Inner.{LaidVariant, LaidAction}
 use Rattle.model.specs.Layout.{variant_words, action_words, variant_at, action_at, reward_words}
 use Rattle.model.specs.declared.Head.{Head}
-use Rattle.steps.specs.declared.Step.{Step}
-use Rattle.steps.specs.declared.Step.TheVariants.{Rows, Refused}
-
--- the answer of a regression as that of a step
-abbrev pub regressed_step : Regressed → Step
-regressed_step (RegressedDone n) = Rows n
-regressed_step (NotRegressed r) = Refused r
-
--- the answer of freeing as that of a step
-abbrev pub freed_step : Freed → Step
-freed_step (FreedDone n) = Rows n
-freed_step (NotFreed r) = Refused r
 
 -- the variant at a place of the table, and a value listing
 pub record VariantTask (ar listings table : List ℕ) (place : ℕ) (value out work : List ℕ) : Type 0 where

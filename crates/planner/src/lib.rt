@@ -15,30 +15,11 @@ ghost use Rattle.planner.specs.Inner.{Takeable, Taken};
 ghost use Rattle.planner.specs.Parts.{variant_product, variant_added, freed_up, action_value, action_tried};
 ghost use Rattle.planner.specs.Backed.{scale_of, power_as, Numbers, Powered, BackedUp, backed_step};
 ghost use Rattle.steps.specs.Steps.{BufferListing, Given, Wrote};
-ghost use Rattle.planner.specs.Tasks.{regressed_step, freed_step, VariantTask, WeightTask, ActionTask, ValueTask, FreeUp, RewardTask, Standing};
+ghost use Rattle.planner.specs.Tasks.{VariantTask, WeightTask, ActionTask, ValueTask, FreeUp, RewardTask, Standing};
 
 use apply::Operation;
 use model::Head;
 use refusal::Refusal;
-use regression::{Freed, Regressed};
-use steps::Step;
-
-// S^(k+1), or that it or k would pass its limit.
-#[derive(Clone, Copy)]
-pub enum Power {
-    Next(u64),
-    Ends,
-}
-
-// The answer of a regression, as that of a step.
-fn regressed_step(r: Regressed) -> Step
-    ensures { result ≡ regressed_step r }
-{
-    match r {
-        Regressed::Done(n) => Step::Rows(n),
-        Regressed::Refused(e) => Step::Refused(e),
-    }
-}
 
 // The value regressed by the variant at a place of the table.
 fn regress_variant(
@@ -49,22 +30,18 @@ fn regress_variant(
     value: &[u64],
     out: &mut [u64],
     work: &mut [u64],
-) -> Step
+) -> Result<usize, Refusal>
     requires { VariantTask arities.now listings.now table.now place value.now out.old work.old }
     ensures { Given arities.now (regressed arities.now (variant_at listings.now table.now place).truths (diagram_of value.now)) result out.new }
 {
-    let r = regress::regress_checked(
+    regress::regress_checked(
         arities,
         value,
         listings,
         &table[place + 2..place + model::VARIANT_WORDS],
         out,
         work,
-    );
-    let Regressed::Done(n) = r else {
-        return regressed_step(r);
-    };
-    Step::Rows(n)
+    )
 }
 
 // The weight of the variant at a place of the table times leaf G, names shared.
@@ -76,7 +53,7 @@ fn weigh(
     g: u64,
     out: &mut [u64],
     work: &mut [u64],
-) -> Step
+) -> Result<usize, Refusal>
     requires { WeightTask arities.now listings.now table.now place g out.old work.old }
     ensures { Given arities.now (combined Product Shared arities.now (variant_at listings.now table.now place).weight (leaf g)) result out.new }
 {
@@ -95,7 +72,7 @@ fn variant_product(
     value: &[u64],
     out: &mut [u64],
     work: &mut [u64],
-) -> Step
+) -> Result<usize, Refusal>
     requires variant_task { VariantTask arities.now listings.now table.now place value.now out.old work.old }
     requires g_le_highest_value { g ≤ highest_value }
     ensures { Given arities.now (variant_product arities.now g (diagram_of value.now) (variant_at listings.now table.now place)) result out.new }
@@ -103,11 +80,11 @@ fn variant_product(
     let mut regressed = [0u64; diagram::RESULT_WORDS];
     let mut weighted = [0u64; diagram::RESULT_WORDS];
     let a = regress_variant(arities, listings, table, place, value, &mut regressed, work);
-    let Step::Rows(n) = a else {
+    let Ok(n) = a else {
         return a;
     };
     let b = weigh(arities, listings, table, place, g, &mut weighted, work);
-    let Step::Rows(m) = b else {
+    let Ok(m) = b else {
         return b;
     };
     steps::shared(
@@ -131,7 +108,7 @@ fn add_variant(
     sum: &mut [u64],
     n: usize,
     work: &mut [u64],
-) -> Step
+) -> Result<usize, Refusal>
     requires variant_task { VariantTask arities.now listings.now table.now place value.now sum.old work.old }
     requires g_le_highest_value { g ≤ highest_value }
     requires buffer_listing { BufferListing arities.now n sum.old }
@@ -148,7 +125,7 @@ fn add_variant(
         &mut product,
         work,
     );
-    let Step::Rows(m) = a else {
+    let Ok(m) = a else {
         return a;
     };
     steps::add_apart(arities, sum, n, &product[..m * 3], work)
@@ -164,47 +141,35 @@ pub fn variants_sum(
     value: &[u64],
     out: &mut [u64],
     work: &mut [u64],
-) -> Step
+) -> Result<usize, Refusal>
     requires action_task { ActionTask arities.now listings.now table.now action }
     requires value_task { ValueTask arities.now value.now g out.old work.old }
     ensures { Given arities.now (variants_sum arities.now g (diagram_of value.now) (leaf 0) (action_at listings.now table.now action).variants) result out.new }
 {
     let variants = table[action * model::ACTION_WORDS + 1] as usize;
     let mut n = steps::begin(out);
-    let mut v = 0;
-    while v < variants {
+    for v in 0..variants {
         let place = action * model::ACTION_WORDS + 2 + v * model::VARIANT_WORDS;
         let r = add_variant(arities, listings, table, place, g, value, out, n, work);
-        let Step::Rows(m) = r else {
+        let Ok(m) = r else {
             return r;
         };
         n = m;
-        v += 1;
     }
-    Step::Rows(n)
-}
-
-// The answer of freeing, as that of a step.
-fn freed_step(r: Freed) -> Step
-    ensures { result ≡ freed_step r }
-{
-    match r {
-        Freed::Done(n) => Step::Rows(n),
-        Freed::Refused(e) => Step::Refused(e),
-    }
+    Ok(n)
 }
 
 // Frees the parameters of an action that has `count` of them, and closes up.
-fn free_up(arities: &[u64], words: &[u64], count: u64, out: &mut [u64]) -> Step
+fn free_up(arities: &[u64], words: &[u64], count: u64, out: &mut [u64]) -> Result<usize, Refusal>
     requires { FreeUp arities.now words.now count out.old }
     ensures { Given arities.now (freed_up arities.now count (diagram_of words.now)) result out.new }
 {
     let r = freeing::free_checked(arities, words, count, out);
-    let Freed::Done(n) = r else {
-        return freed_step(r);
+    let Ok(n) = r else {
+        return r;
     };
     apart::close_up(arities, out, n);
-    Step::Rows(n)
+    Ok(n)
 }
 
 // The sum over the variants of an action, freed and closed up.
@@ -217,14 +182,14 @@ fn action_value(
     value: &[u64],
     out: &mut [u64],
     work: &mut [u64],
-) -> Step
+) -> Result<usize, Refusal>
     requires action_task { ActionTask arities.now listings.now table.now action }
     requires value_task { ValueTask arities.now value.now g out.old work.old }
     ensures { Given arities.now (action_value arities.now g (diagram_of value.now) (action_at listings.now table.now action)) result out.new }
 {
     let mut sum = [0u64; diagram::RESULT_WORDS];
     let a = variants_sum(arities, listings, table, action, g, value, &mut sum, work);
-    let Step::Rows(n) = a else {
+    let Ok(n) = a else {
         return a;
     };
     let count = table[action * model::ACTION_WORDS];
@@ -242,7 +207,7 @@ fn try_action(
     best: &mut [u64],
     n: usize,
     work: &mut [u64],
-) -> Step
+) -> Result<usize, Refusal>
     requires action_task { ActionTask arities.now listings.now table.now action }
     requires value_task { ValueTask arities.now value.now g best.old work.old }
     requires buffer_listing { BufferListing arities.now n best.old }
@@ -250,7 +215,7 @@ fn try_action(
 {
     let mut gain = [0u64; diagram::RESULT_WORDS];
     let a = action_value(arities, listings, table, action, g, value, &mut gain, work);
-    let Step::Rows(m) = a else {
+    let Ok(m) = a else {
         return a;
     };
     steps::fold_shared(Operation::Max, arities, best, n, &gain[..m * 3], work)
@@ -265,7 +230,7 @@ fn actions_best(
     value: &[u64],
     out: &mut [u64],
     work: &mut [u64],
-) -> Step
+) -> Result<usize, Refusal>
     requires laid { Laid arities.now listings.now table.now head }
     requires value_task { ValueTask arities.now value.now head.numerator out.old work.old }
     ensures { Given arities.now (actions_best arities.now head.numerator (diagram_of value.now) (leaf 0) (model_of arities.now listings.now table.now head).actions) result out.new }
@@ -273,16 +238,14 @@ fn actions_best(
     let actions = head.actions;
     let g = head.numerator;
     let mut n = steps::begin(out);
-    let mut a = 0;
-    while a < actions {
+    for a in 0..actions {
         let r = try_action(arities, listings, table, a, g, value, out, n, work);
-        let Step::Rows(m) = r else {
+        let Ok(m) = r else {
             return r;
         };
         n = m;
-        a += 1;
     }
-    Step::Rows(n)
+    Ok(n)
 }
 
 // The reward times leaf S^(k+1), names shared.
@@ -293,7 +256,7 @@ fn scale_reward(
     scale: u64,
     out: &mut [u64],
     work: &mut [u64],
-) -> Step
+) -> Result<usize, Refusal>
     requires { RewardTask arities.now listings.now head scale out.old work.old }
     ensures { Given arities.now (combined Product Shared arities.now (diagram_of (reward_words listings.now head)) (leaf scale)) result out.new }
 {
@@ -312,7 +275,7 @@ fn replace_value(
     value: &mut [u64],
     rows: usize,
     work: &mut [u64],
-) -> Step
+) -> Result<usize, Refusal>
     requires laid { Laid arities.now listings.now table.now head }
     requires standing { Standing arities.now value.old rows work.old }
     requires scale_le_highest_value { scale ≤ highest_value }
@@ -329,21 +292,14 @@ fn replace_value(
         &mut best,
         work,
     );
-    let Step::Rows(n) = a else {
+    let Ok(n) = a else {
         return a;
     };
     let b = scale_reward(arities, listings, head, scale, &mut reward, work);
-    let Step::Rows(m) = b else {
+    let Ok(m) = b else {
         return b;
     };
     steps::sum_apart(arities, &best[..n * 3], &reward[..m * 3], value, work)
-}
-
-// What a backup answers: the rows of the new value and S^(k+1), or the first refusal met.
-#[derive(Clone, Copy)]
-pub enum Backed {
-    Done(usize, u64),
-    Refused(Refusal),
 }
 
 // k, at most.
@@ -353,32 +309,32 @@ const STEPS: u64 = 1000000000000000000;
 const SCALE: u64 = 1000000000000000000;
 
 // S^(k+1) from S^k, or 12: it is above 10^18, or k is 10^18.
-fn next_power(head: Head, k: u64, power: u64) -> Power
+fn next_power(head: Head, k: u64, power: u64) -> Option<u64>
     requires numbers { Numbers head }
     requires powered { Powered head k power }
     ensures { result ≡ power_as (scale_of head) k }
 {
     let scale = head.total * head.denominator;
     if k == STEPS {
-        return Power::Ends;
+        return None;
     }
     if power > SCALE / scale {
-        return Power::Ends;
+        return None;
     }
-    Power::Next(power * scale)
+    Some(power * scale)
 }
 
 // The answer of the calls of a backup, with S^(k+1), as that of the backup.
-fn backed_step(r: Step, scale: u64) -> Backed
+fn backed_step(r: Result<usize, Refusal>, scale: u64) -> Result<(usize, u64), Refusal>
     ensures { result ≡ backed_step scale r }
 {
     match r {
-        Step::Rows(n) => Backed::Done(n, scale),
-        Step::Refused(e) => Backed::Refused(e),
+        Ok(n) => Ok((n, scale)),
+        Err(e) => Err(e),
     }
 }
 
-// A backup of the value, whose listing is the first rows of the buffer; `power` is S^k. A refusal changes nothing.
+// A backup of the value, whose listing is the first rows of the buffer; `power` is S^k. A refusal changes nothing. Answers the rows of the new value and S^(k+1).
 pub fn backup(
     arities: &[u64],
     listings: &[u64],
@@ -389,21 +345,21 @@ pub fn backup(
     value: &mut [u64],
     rows: usize,
     work: &mut [u64],
-) -> Backed
+) -> Result<(usize, u64), Refusal>
     requires laid { Laid arities.now listings.now table.now head }
     requires standing { Standing arities.now value.old rows work.old }
     requires powered { Powered head k power }
     ensures { BackedUp arities.now (model_of arities.now listings.now table.now head) k (diagram_of (take (rows * 3) value.old)) result value.old value.new }
 {
     let p = next_power(head, k, power);
-    let Power::Next(scale) = p else {
-        return Backed::Refused(Refusal::Scale);
+    let Some(scale) = p else {
+        return Err(Refusal::Scale);
     };
     let r = replace_value(arities, listings, table, head, scale, value, rows, work);
-    let Step::Rows(n) = r else {
+    let Ok(n) = r else {
         return backed_step(r, scale);
     };
-    Backed::Done(n, scale)
+    Ok((n, scale))
 }
 
 // What a run holds beside the value's listing: its rows, k and S^k.

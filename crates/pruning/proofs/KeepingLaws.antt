@@ -23,13 +23,12 @@ use Rattle.diagram.specs.Shown.{Shown}
 use Rattle.apply.specs.Apply.{node}
 use Rattle.apply.specs.Formed.{add}
 use Rattle.apply.proofs.FormedLaws.{add-old, add-new, add-mem, add-begins}
-use Rattle.store.specs.declared.Formed.{Formed}
-use Rattle.store.specs.declared.Formed.TheVariants.{Row, Full}
 use Rattle.store.specs.Space.{diagrams_of, Holds, Children, Formation}
 use Rattle.store.proofs.SpaceLaws.{length-diagrams, holds-none, formation-row, formation-full, formation-tree, formation-old}
 use Rattle.pruning.specs.Pruning.{kept_of, stays, stays_in}
 use Rattle.pruning.specs.Keeping.{Keeping, Keepable, Kept}
 use Rattle.pruning.specs.PruningLaws.{kept-leaf, stays-is, kept_row}
+use Rattle.std.specs.Prelude.{None, Option, Some}
 
 -- forming a row makes at most one more
 add_most : (d : Diagram) (rs : List Diagram) → length (add d rs) ≤ length rs + 1
@@ -57,7 +56,7 @@ module _ {ws edges s heads links numbers : List ℕ} {count i : ℕ} (g : Keepin
   shown : Shown ws (row_count ws) (tree ws)
   shown = g.edged.rows.shown
 
-  pub keep-leaf : {r : Formed} {s' heads' links' : List ℕ} → get_or ws (i * 3) 0 ≡ leaf_mark
+  pub keep-leaf : {r : Option (ℕ × ℕ)} {s' heads' links' : List ℕ} → get_or ws (i * 3) 0 ≡ leaf_mark
       → Formation (leaf (get_or ws (i * 3 + 1) 0)) (add (leaf (get_or ws (i * 3 + 1) 0)) (diagrams_of s count)) r s' heads' links'
       → Formation D (add D (diagrams_of s count)) r s' heads' links'
   unfolding label_at high_at
@@ -115,7 +114,7 @@ module _ {ws edges s heads links numbers : List ℕ} {count i : ℕ} (g : Keepin
         low-there = low-known.0;
       }
 
-      pub keep-branch : {r : Formed} {s' heads' links' : List ℕ}
+      pub keep-branch : {r : Option (ℕ × ℕ)} {s' heads' links' : List ℕ}
           → Formation (node L (tree s high) (tree s low)) (add (node L (tree s high) (tree s low)) (diagrams_of s count)) r s' heads' links'
           → Formation D (add D (diagrams_of s count)) r s' heads' links'
       keep-branch {r} {s'} {heads'} {links'} f =
@@ -134,15 +133,15 @@ module _ {ws edges s heads links numbers : List ℕ} {count i : ℕ} (g : Keepin
     abbrev E : Diagram
     E = kept_of (stays_in ws edges) (tree ws i)
 
-    module _ {r : Formed} {s' heads' links' : List ℕ} (f : Formation E (add E (diagrams_of s count)) r s' heads' links') where
-      pub keep-full : r ≡ Full → Kept ws edges Full s'
+    module _ {r : Option (ℕ × ℕ)} {s' heads' links' : List ℕ} (f : Formation E (add E (diagrams_of s count)) r s' heads' links') where
+      pub keep-full : r ≡ None → Kept ws edges None s'
       keep-full e =
-          let z = formation-full (subst (λ (x : Formed). Formation E (add E (diagrams_of s count)) x s' heads' links') e f) in
+          let z = formation-full (subst (λ (x : Option (ℕ × ℕ)). Formation E (add E (diagrams_of s count)) x s' heads' links') e f) in
           absurd (omega (arith, add_most E (diagrams_of s count), length-diagrams s count, g.few, g.edged.rows.few))
 
-      module _ {j c : ℕ} (e : r ≡ Row j c) where
-        there : Formation E (add E (diagrams_of s count)) (Row j c) s' heads' links'
-        there = subst (λ (x : Formed). Formation E (add E (diagrams_of s count)) x s' heads' links') e f
+      module _ {j c : ℕ} (e : r ≡ Some (j, c)) where
+        there : Formation E (add E (diagrams_of s count)) (Some (j, c)) s' heads' links'
+        there = subst (λ (x : Option (ℕ × ℕ)). Formation E (add E (diagrams_of s count)) x s' heads' links') e f
 
         at_row : (j < c) × (tree s' j ≡ E)
         at_row = formation-tree there (add-mem E (diagrams_of s count))
@@ -173,7 +172,7 @@ module _ {ws edges s heads links numbers : List ℕ} {count i : ℕ} (g : Keepin
             each x l (equal q) = rw (q, get_or-set_same numbers i j 0 keep-place) at_row
             each x l (above q) = absurd (omega arith)
 
-  pub keep-end : {root : ℕ} → length ws / 3 ≤ i → root ≡ get_or numbers (length ws / 3 - 1) 0 → Kept ws edges (Row root count) s
+  pub keep-end : {root : ℕ} → length ws / 3 ≤ i → root ≡ get_or numbers (length ws / 3 - 1) 0 → Kept ws edges (Some (root, count)) s
   keep-end {root} h e =
       let n = g.edged.some in
       let p : length ws / 3 - 1 ≡ pred (row_count ws) = omega arith in
@@ -195,15 +194,15 @@ module _ {ws edges s : List ℕ} (g : Keepable ws edges s) where
   pub keep-empty : (n₁ n₂ : ℕ) → buckets ≤ n₁ → space_rows ≤ n₂ → Holds s (replicate n₁ 0) (replicate n₂ 0) 0
   keep-empty n₁ n₂ h l = holds-none s (replicate n₁ 0) (replicate n₂ 0) (omega (arith, g.room)) (rw length-replicate l) (clean-made n₁ h)
 
-  module _ {r : Formed} {s' heads' links' : List ℕ} (f : Formation (leaf 0) (add (leaf 0) (diagrams_of s 0)) r s' heads' links') where
-    pub keep-nothing : r ≡ Full → Kept ws edges Full s'
+  module _ {r : Option (ℕ × ℕ)} {s' heads' links' : List ℕ} (f : Formation (leaf 0) (add (leaf 0) (diagrams_of s 0)) r s' heads' links') where
+    pub keep-nothing : r ≡ None → Kept ws edges None s'
     keep-nothing e =
-        let z = formation-full (subst (λ (x : Formed). Formation (leaf 0) (add (leaf 0) (diagrams_of s 0)) x s' heads' links') e f) in
+        let z = formation-full (subst (λ (x : Option (ℕ × ℕ)). Formation (leaf 0) (add (leaf 0) (diagrams_of s 0)) x s' heads' links') e f) in
         absurd (omega (arith, add_most (leaf 0) (diagrams_of s 0), length-diagrams s 0))
 
-    pub keep-start : {j c : ℕ} (n₃ : ℕ) → r ≡ Row j c → most_rows ≤ n₃ → Keeping ws edges s' heads' links' (replicate n₃ 0) c 0
+    pub keep-start : {j c : ℕ} (n₃ : ℕ) → r ≡ Some (j, c) → most_rows ≤ n₃ → Keeping ws edges s' heads' links' (replicate n₃ 0) c 0
     keep-start {j} {c} n₃ e l =
-        let t = subst (λ (x : Formed). Formation (leaf 0) (add (leaf 0) (diagrams_of s 0)) x s' heads' links') e f in
+        let t = subst (λ (x : Option (ℕ × ℕ)). Formation (leaf 0) (add (leaf 0) (diagrams_of s 0)) x s' heads' links') e f in
         let a = formation-row t in
         let q = formation-tree t (add-mem (leaf 0) (diagrams_of s 0)) in
         let few : c ≤ 1 = omega (arith, a.2, add_most (leaf 0) (diagrams_of s 0), length-diagrams s 0) in

@@ -14,10 +14,6 @@ use Rattle.diagram.specs.Validity.{Valid, tree}
 use Rattle.diagram.specs.Variables.{closed}
 use Rattle.diagram.specs.DiagramOfListing.{diagram-is, good-diagram}
 use Rattle.diagram.specs.ListingValid.{listing-is-valid}
-use Rattle.store.specs.declared.Formed.{Formed}
-use Rattle.store.specs.declared.Formed.TheVariants.{Row, Full}
-use Rattle.write.specs.declared.Listed.{Listed}
-use Rattle.write.specs.declared.Listed.TheVariants.{Rows, TooMany}
 use Rattle.write.specs.Renaming.{listed_in}
 use Rattle.write.specs.Writing as write
 use Rattle.write.specs.Writing.{WritePost}
@@ -29,11 +25,12 @@ use Rattle.pruning.specs.Pruning.{kept_of, Agrees, stays_in, Prunable, Pruned}
 use Rattle.pruning.specs.Keeping.{Keepable, Kept}
 use Rattle.pruning.specs.PruningLaws.{kept-agrees}
 use Rattle.paths.specs.PathLaws.{listing-rows}
+use Rattle.std.specs.Prelude.{None, Option, Some}
 
 -- there was room
-pub prune-room : {A : Type 0} {ws edges s : List ℕ} {x : Formed} → Kept ws edges x s → x ≡ Full → A
+pub prune-room : {A : Type 0} {ws edges s : List ℕ} {x : Option (ℕ × ℕ)} → Kept ws edges x s → x ≡ None → A
 prune-room f e =
-    let z : Full ≡ Row f.stands.root f.stands.count = sym e ∙ f.stands.answer in
+    let z : ◌≡◌ {A = Option (ℕ × ℕ)} None (Some (f.stands.root, f.stands.count)) = sym e ∙ f.stands.answer in
     absurd (let u : ◌≡◌ {A = ℕ} 0 1 = cc in omega arith)
 
 module _ {ar ws edges out work : List ℕ} (g : Prunable ar ws edges out work) where
@@ -46,7 +43,7 @@ module _ {ar ws edges out work : List ℕ} (g : Prunable ar ws edges out work) w
     room = g.work-room;
   }
 
-  module _ {x : Formed} {s : List ℕ} (f : Kept ws edges x s) {root count : ℕ} (e : x ≡ Row root count) (l : length s ≡ length work) where
+  module _ {x : Option (ℕ × ℕ)} {s : List ℕ} (f : Kept ws edges x s) {root count : ℕ} (e : x ≡ Some (root, count)) (l : length s ≡ length work) where
     -- what is left, before it is closed up
     abbrev D : Diagram
     D = kept_of (stays_in ws edges) (tree ws (pred (row_count ws)))
@@ -63,11 +60,11 @@ module _ {ar ws edges out work : List ℕ} (g : Prunable ar ws edges out work) w
     pub prune-writable : (n₁ n₂ : ℕ) → space_rows ≤ n₁ → space_rows ≤ n₂ → write.Writable s count root (replicate n₁ 0) (replicate n₂ 0) out
     prune-writable n₁ n₂ h h' = ready-writable ready n₁ n₂ h h'
 
-    module _ {y : Listed} {marks' out' : List ℕ} (w : WritePost s root out y marks' out') where
-      pub prune-many : {A : Type 0} → y ≡ TooMany → A
+    module _ {y : Option ℕ} {marks' out' : List ℕ} (w : WritePost s root out y marks' out') where
+      pub prune-many : {A : Type 0} → y ≡ None → A
       prune-many q = ready-few ready w q
 
-      module _ {k : ℕ} (q : y ≡ Rows k) where
+      module _ {k : ℕ} (q : y ≡ Some k) where
         pub prune-closable : Closable ar out' k
         prune-closable = ready-closable ready w q
 

@@ -5,10 +5,10 @@ use Rattle.diagram.specs.Diagram.{leaf}
 use Rattle.diagram.specs.Words.{row_count}
 use Rattle.diagram.specs.Validity.{tree}
 use Rattle.paths.specs.Inner.{Rows}
-use Rattle.store.specs.declared.Formed.{Formed}
 use Rattle.store.specs.Space.{Holds}
 use Rattle.apart.specs.Results.{Stands}
 use Rattle.pruning.specs.Pruning.{kept_of, stays_in}
+use Rattle.std.specs.Prelude.{Option}
 
 -- the rows of a listing, with two words for each
 pub record Edged (ws edges : List ℕ) : Type 0 where
@@ -33,5 +33,5 @@ pub record Keepable (ws edges s : List ℕ) : Type 0 where
   pub room : space_words ≤ length s
 
 -- what is left of the last row has its place; there is always room
-pub record Kept (ws edges : List ℕ) (r : Formed) (s : List ℕ) : Type 0 where
+pub record Kept (ws edges : List ℕ) (r : Option (ℕ × ℕ)) (s : List ℕ) : Type 0 where
   pub stands : Stands (kept_of (stays_in ws edges) (tree ws (pred (row_count ws)))) r s

@@ -11,8 +11,6 @@ ghost use Rattle.pruning.specs.Pruning.{kept_of, Agrees, stays_in, Prunable, Pru
 ghost use Rattle.pruning.specs.Keeping.{Keeping, Keepable, Kept};
 
 use label::Label;
-use store::Formed;
-use write::Listed;
 
 // Edges of a listing at most: two for each row.
 pub const EDGES: usize = 2048;
@@ -24,9 +22,10 @@ fn child(edges: &[u8], numbers: &[u16], e: usize, k: usize) -> usize
     ensures { result ≡ cond (eqb (get_or edges.now e 0) 0) 0 (get_or numbers.now k 0) }
 {
     if edges[e] == 0 {
-        return 0;
+        0
+    } else {
+        basics::wide(numbers[k])
     }
-    basics::wide(numbers[k])
 }
 
 // Forms what is left of row i; `numbers` has the places of what is left of the rows before it, and row 0 of the space is leaf 0.
@@ -39,7 +38,7 @@ fn keep_row(
     links: &mut [u16],
     count: usize,
     i: usize,
-) -> Formed
+) -> Option<(usize, usize)>
     requires keeping { Keeping words.now edges.now space.old heads.old links.old numbers.now count i }
     requires i_bound { i < row_count words.now }
     ensures { Formation (kept_of (stays_in words.now edges.now) (tree words.now i)) (add (kept_of (stays_in words.now edges.now) (tree words.now i)) (diagrams_of space.old count)) result space.new heads.new links.new }
@@ -62,36 +61,29 @@ fn keep_rows(
     links: &mut [u16],
     numbers: &mut [u16],
     first: usize,
-) -> Formed
+) -> Option<(usize, usize)>
     requires { Keeping words.now edges.now space.old heads.old links.old numbers.old first 0 }
     ensures { Kept words.now edges.now result space.new }
 {
     let n = words.len() / 3;
     let mut count = first;
-    let mut i = 0;
-    while i < n {
-        let r = keep_row(words, edges, numbers, space, heads, links, count, i);
-        let Formed::Row(j, c) = r else {
-            return Formed::Full;
-        };
+    for i in 0..n {
+        let (j, c) = keep_row(words, edges, numbers, space, heads, links, count, i)?;
         numbers[i] = j as u16;
         count = c;
-        i += 1;
     }
-    Formed::Row(basics::wide(numbers[n - 1]), count)
+    Some((basics::wide(numbers[n - 1]), count))
 }
 
 // Forms what is left once every edge whose word is 0 goes to leaf 0.
-fn keep(words: &[u64], edges: &[u8], work: &mut [u64]) -> Formed
+fn keep(words: &[u64], edges: &[u8], work: &mut [u64]) -> Option<(usize, usize)>
     requires { Keepable words.now edges.now work.old }
     ensures { Kept words.now edges.now result work.new }
 {
     let mut heads = [0u16; table::BUCKETS];
     let mut links = [0u16; diagram::SPACE_ROWS];
     let mut numbers = [0u16; diagram::ROWS];
-    let Formed::Row(_, first) = store::leaf(work, &mut heads, &mut links, 0, 0) else {
-        return Formed::Full;
-    };
+    let (_, first) = store::leaf(work, &mut heads, &mut links, 0, 0)?;
     keep_rows(
         words,
         edges,
@@ -115,12 +107,12 @@ pub fn prune(
     requires { Prunable arities.now words.now edges.now out.old work.old }
     ensures { (stays : Diagram → Bool → Bool) → Agrees words.now edges.now stays → Pruned arities.now words.now stays out.old result out.new }
 {
-    let Formed::Row(root, count) = keep(words, edges, work) else {
+    let Some((root, count)) = keep(words, edges, work) else {
         return 0;
     };
     let mut marks = [0u16; diagram::SPACE_ROWS];
     let mut order = [0u16; diagram::SPACE_ROWS];
-    let Listed::Rows(k) = write::write(work, count, root, &mut marks, &mut order, out) else {
+    let Some(k) = write::write(work, count, root, &mut marks, &mut order, out) else {
         return 0;
     };
     apart::close_up(arities, out, k);

@@ -21,55 +21,51 @@ use Rattle.events.specs.Front.{is_end, events_of}
 use Rattle.events.specs.FrontLaws.{events-short}
 use Rattle.reading.specs.declared.Binding.TheVariants.{Any}
 use Rattle.reading.specs.declared.Kind.{Kind}
-use Rattle.reading.specs.declared.Argument.{Argument}
-use Rattle.reading.specs.declared.Argument.TheVariants as A
 use Rattle.reading.specs.Reading.{Written, reading}
 use Rattle.reading.specs.Occurrences.{minimum_of, variable_of, word_keys, keys_of}
 use Rattle.reading.specs.Numbering.{is_numbered, all_numbered, reward_reading}
 use Rattle.reader.specs.declared.Known.{Known}
 use Rattle.reader.specs.declared.Scope.{Scope}
-use Rattle.reader.specs.declared.Read.{Read}
-use Rattle.reader.specs.declared.Numbered.{Numbered}
-use Rattle.reader.specs.declared.Numbered.TheVariants as N
-use Rattle.reader.specs.declared.Gathered.{Gathered}
-use Rattle.reader.specs.declared.Gathered.TheVariants as G
 use Rattle.reader.specs.GatheringLaws.{kept-reading}
 use Rattle.reader.specs.Gathering.{moved_in, numbered_as, moved, gathered, kept_first, kept_met, Insertable, GathersAs, Gathers}
 use Rattle.reader.specs.Callers.{met_in, names_of, Part, Reads, Meets, MeetsWord}
 use Rattle.reader.proofs.WordCode.{moves, events-next, events-none}
 use Rattle.reader.proofs.NumberCode.{order-number, order_is, order-not}
+use Rattle.refusal.specs.declared.Refusal.{Refusal}
+use Rattle.std.specs.Prelude.{Option, Result}
+use Rattle.std.specs.Prelude.{Some, None}
 
 -- ===== One variable =====
 
-module _ (k : Key) {t : Numbered} (q : t ≡ numbered_as (name_of k)) where
-  pub gather-other : (us : List Key) {vs : List ℕ} → t ≡ N.Other → Gathers us (k ∷ []) G.Other vs
+module _ (k : Key) {t : Option ℕ} (q : t ≡ numbered_as (name_of k)) where
+  pub gather-other : (us : List Key) {vs : List ℕ} → t ≡ None → Gathers us (k ∷ []) None vs
   gather-other us e = record { is = rw (order-not (name_of k) q e) }
 
-  module _ (vs : List ℕ) (count : ℕ) {n : ℕ} (e : t ≡ N.Number n) where
+  module _ (vs : List ℕ) (count : ℕ) {n : ℕ} (e : t ≡ Some n) where
     is-numbered : all_numbered (k ∷ []) ≡ true
     is-numbered = rw (order_is (name_of k) q e)
 
-    pub gather-full : Part vs count → variable_count < count → Gathers (keys_at vs 0 count) (k ∷ []) (G.Count count) vs
+    pub gather-full : Part vs count → variable_count < count → Gathers (keys_at vs 0 count) (k ∷ []) (Some count) vs
     gather-full t h = record { is = (is-numbered, rw (lt-leb (length (keys_at vs 0 count)) variable_count (omega (arith, length-keys vs 0 count))), t) }
 
     pub gather-insertable : Part vs count → count ≤ variable_count → Insertable vs count k n
     gather-insertable t h = record { table = t; room = h; number = order-number (name_of k) q e }
 
-    pub gather-more : count ≤ variable_count → {r : ℕ} {vs' : List ℕ} → Meets (moved k (keys_at vs 0 count)) r vs' → Gathers (keys_at vs 0 count) (k ∷ []) (G.Count r) vs'
+    pub gather-more : count ≤ variable_count → {r : ℕ} {vs' : List ℕ} → Meets (moved k (keys_at vs 0 count)) r vs' → Gathers (keys_at vs 0 count) (k ∷ []) (Some r) vs'
     gather-more h m = record {
       is = (is-numbered, rw (le-leb (length (keys_at vs 0 count)) variable_count (omega (arith, length-keys vs 0 count))) m.variables, m.table);
     }
 
-module _ (w : Argument) where
-  pub word-gathers : (us : List Key) {k : Key} {r : Gathered} {vs' : List ℕ} → w ≡ A.Named k → Gathers us (k ∷ []) r vs' → Gathers us (word_keys w) r vs'
+module _ (w : Option Key) where
+  pub word-gathers : (us : List Key) {k : Key} {r : Option ℕ} {vs' : List ℕ} → w ≡ Some k → Gathers us (k ∷ []) r vs' → Gathers us (word_keys w) r vs'
   word-gathers us e g = rw e g
 
-  pub word-passes : (vs : List ℕ) (count : ℕ) → w ≡ A.Other → Part vs count → Gathers (keys_at vs 0 count) (word_keys w) (G.Count count) vs
+  pub word-passes : (vs : List ℕ) (count : ℕ) → w ≡ None → Part vs count → Gathers (keys_at vs 0 count) (word_keys w) (Some count) vs
   word-passes vs count e t = rw e (record { is = (refl, refl, t) })
 
 -- ===== All variables of a line =====
 
-pub minimum-named : (e : Event) {k : Key} → e ≡ E.Minimum k → A.Named k ≡ minimum_of e
+pub minimum-named : (e : Event) {k : Key} → e ≡ E.Minimum k → Some k ≡ minimum_of e
 minimum-named e p = rw p
 
 all_join : (xs ys : List Key) → all_numbered (xs ++ ys) ≡ (all_numbered xs && all_numbered ys)
@@ -128,13 +124,13 @@ module _ {line : List ℕ} {place₀ : ℕ} {vs₀ : List ℕ} {c : Kind} where
         pub gathering-shrinks : length line - n.place < length line - place
         gathering-shrinks = let m = moves line place n q l.within in omega (arith, m.0, m.1 (sym t ∙ f))
 
-        module _ {w : Argument} (p : w ≡ variable_of c n.event) where
+        module _ {w : Option Key} (p : w ≡ variable_of c n.event) where
           keys : keys_of c (events_of (drop place line)) ≡ word_keys w ++ keys_of c (events_of (drop n.place line))
           keys =
               ap (keys_of c) (events-next line place n q (sym t ∙ f))
-              ∙ ap (λ (a : Argument). word_keys a ++ keys_of c (events_of (drop n.place line))) (sym p)
+              ∙ ap (λ (a : Option Key). word_keys a ++ keys_of c (events_of (drop n.place line))) (sym p)
 
-          pub gathering-other : {vs' : List ℕ} → length vs' ≡ length vs → {x : Gathered} → Gathers (keys_at vs 0 count) (word_keys w) x vs' → x ≡ G.Other
+          pub gathering-other : {vs' : List ℕ} → length vs' ≡ length vs → {x : Option ℕ} → Gathers (keys_at vs 0 count) (word_keys w) x vs' → x ≡ None
               → Meets (kept_first [] (keys_of c (events_of (drop place₀ line)))) 0 vs'
           gathering-other {vs'} size' g e =
               let o : all_numbered (word_keys w) ≡ false = subst (GathersAs (keys_at vs 0 count) (word_keys w) vs') e g.is in
@@ -145,10 +141,10 @@ module _ {line : List ℕ} {place₀ : ℕ} {vs₀ : List ℕ} {c : Kind} where
                 table = record { words = omega (arith, size', l.table.words); within = omega arith };
               }
 
-          pub gathering-more : {vs' : List ℕ} → length vs' ≡ length vs → {x : Gathered} {m : ℕ} → Gathers (keys_at vs 0 count) (word_keys w) x vs' → x ≡ G.Count m
+          pub gathering-more : {vs' : List ℕ} → length vs' ≡ length vs → {x : Option ℕ} {m : ℕ} → Gathers (keys_at vs 0 count) (word_keys w) x vs' → x ≡ Some m
               → Gathering line place₀ vs₀ c vs' n.place m
           gathering-more {vs'} size' {x} {m} g e =
-              let o : GathersAs (keys_at vs 0 count) (word_keys w) vs' (G.Count m) = subst (GathersAs (keys_at vs 0 count) (word_keys w) vs') e g.is in
+              let o : GathersAs (keys_at vs 0 count) (word_keys w) vs' (Some m) = subst (GathersAs (keys_at vs 0 count) (word_keys w) vs') e g.is in
               let rest : List Key = keys_of c (events_of (drop n.place line)) in
               record {
                 within = (moves line place n q l.within).0;
@@ -164,7 +160,7 @@ module _ {line : List ℕ} {place₀ : ℕ} {vs₀ : List ℕ} {c : Kind} where
 -- ===== A reward's words =====
 
 pub reward-reads : (line : List ℕ) (place : ℕ) (ns ar : List ℕ) (s : Scope) {known : Known} {vs : List ℕ} → s.binding ≡ Any
-    → MeetsWord (kept_met (events_of (drop place line))) known vs → {r : Read} {vs' os' : List ℕ}
+    → MeetsWord (kept_met (events_of (drop place line))) known vs → {r : Result (ℕ × Known) Refusal} {vs' os' : List ℕ}
     → Reads (reading (names_of ns ar s) (events_of (drop place line)) (met_in vs known)) r vs' os' → Reads (reward_reading (names_of ns ar s) (events_of (drop place line))) r vs' os'
 reward-reads line place ns ar s any m {r} {vs'} {os'} h =
     let es : List Event = events_of (drop place line) in

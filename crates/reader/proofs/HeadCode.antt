@@ -21,16 +21,13 @@ use Rattle.events.specs.declared.Next.{Next}
 use Rattle.events.specs.Inner.{next_at}
 use Rattle.events.specs.Front.{is_end, events_of}
 use Rattle.events.specs.FrontLaws.{next-end, next_more}
-use Rattle.reading.specs.declared.Opening.{Opening}
-use Rattle.reading.specs.declared.Opening.TheVariants as O
-use Rattle.reading.specs.declared.Argument.{Argument}
-use Rattle.reading.specs.declared.Argument.TheVariants as A
 use Rattle.reading.specs.Head.{Head, opening_of, argument_of, opened_number, head_number, pick_argument, arguments_from, opened_arguments, head_arguments}
-use Rattle.reader.specs.declared.Opened.TheVariants as P
-use Rattle.reader.specs.declared.Headed.{Headed}
-use Rattle.reader.specs.declared.Headed.TheVariants as H
 use Rattle.reader.specs.Callers.{Opens, Heads}
 use Rattle.reader.proofs.WordCode.{moves}
+use Rattle.refusal.specs.declared.Refusal.{Refusal}
+use Rattle.std.specs.Prelude.{Option, Result}
+use Rattle.std.specs.Prelude.{Some, None}
+use Rattle.std.specs.Prelude.{Ok, Err}
 
 -- the events from a place on, by what stands there
 
@@ -45,7 +42,7 @@ standing line place = go (is_end (next_at line place).event) refl
     go true e = ends (next-end line place e) e
     go false e = goes e
 
-end-opening : (e : Event) → is_end e ≡ true → opening_of e ≡ O.Other
+end-opening : (e : Event) → is_end e ≡ true → opening_of e ≡ None
 end-opening (E.Name k) p = refl
 end-opening (E.Variable k) p = refl
 end-opening (E.Parameter k) p = refl
@@ -56,7 +53,7 @@ end-opening (E.Holds k n) p = absurd (clash p refl)
 end-opening E.Step p = refl
 end-opening E.End p = refl
 
-end-argument : (e : Event) → is_end e ≡ true → argument_of e ≡ A.Other
+end-argument : (e : Event) → is_end e ≡ true → argument_of e ≡ None
 end-argument (E.Name k) p = refl
 end-argument (E.Variable k) p = absurd (clash p refl)
 end-argument (E.Parameter k) p = refl
@@ -88,7 +85,7 @@ arguments-at line place n = go (standing line place)
     go (goes b) = rw (next_more line place b)
 
 -- an argument, the keys vs before it, and n more behind it in the words es
-abbrev argument_then : ℕ → List Key → List Event → Argument → Outcome Head
+abbrev argument_then : ℕ → List Key → List Event → Option Key → Outcome Head
 argument_then n vs es a = pick_argument a (λ k. cond (is_among k vs) (refused Name) (arguments_from n (vs ++ (k ∷ [])) es))
 
 from_at : (line : List ℕ) (place n : ℕ) (vs : List Key)
@@ -105,32 +102,32 @@ from_at line place n vs = go (standing line place)
 
 -- the kinds of words
 
-pub opening-atom : (e : Event) {k : Key} {n : ℕ} → e ≡ E.Holds k n → O.Atom k n ≡ opening_of e
+pub opening-atom : (e : Event) {k : Key} {n : ℕ} → e ≡ E.Holds k n → Some (k, n) ≡ opening_of e
 opening-atom e p = rw p
 
-pub argument-named : (e : Event) {k : Key} → e ≡ E.Variable k → A.Named k ≡ argument_of e
+pub argument-named : (e : Event) {k : Key} → e ≡ E.Variable k → Some k ≡ argument_of e
 argument-named e p = rw p
 
 -- the head's predicate
 
-module _ (line : List ℕ) (place : ℕ) (ns : List ℕ) (n : ℕ) {x : Next} (q : x ≡ next_at line place) {o : Opening} (t : o ≡ opening_of x.event) where
-  opened : (p : Opening) → o ≡ p → head_number (keys_at ns declared_at n) (events_of (drop place line)) ≡ opened_number (keys_at ns declared_at n) p
+module _ (line : List ℕ) (place : ℕ) (ns : List ℕ) (n : ℕ) {x : Next} (q : x ≡ next_at line place) {o : Option (Key × ℕ)} (t : o ≡ opening_of x.event) where
+  opened : (p : Option (Key × ℕ)) → o ≡ p → head_number (keys_at ns declared_at n) (events_of (drop place line)) ≡ opened_number (keys_at ns declared_at n) p
   opened p e =
       number_at line place (keys_at ns declared_at n)
       ∙ ap (opened_number (keys_at ns declared_at n)) (sym (ap (λ (y : Next). opening_of y.event) q) ∙ sym t ∙ e)
 
-  pub predicate-other : o ≡ O.Other → Opens n (head_number (keys_at ns declared_at n) (events_of (drop place line))) (P.Refused Form)
+  pub predicate-other : o ≡ None → Opens n (head_number (keys_at ns declared_at n) (events_of (drop place line))) (Err Form)
   unfolding opened_number
-  predicate-other e = record { answer = sym (opened O.Other e); within = tt }
+  predicate-other e = record { answer = sym (opened None e); within = tt }
 
-  module _ {k : Key} {m i : ℕ} (e : o ≡ O.Atom k m) (u : i ≡ place_of k (keys_at ns declared_at n)) where
-    pub predicate-name : n ≤ i → Opens n (head_number (keys_at ns declared_at n) (events_of (drop place line))) (P.Refused Name)
+  module _ {k : Key} {m i : ℕ} (e : o ≡ Some (k, m)) (u : i ≡ place_of k (keys_at ns declared_at n)) where
+    pub predicate-name : n ≤ i → Opens n (head_number (keys_at ns declared_at n) (events_of (drop place line))) (Err Name)
     unfolding opened_number
-    predicate-name h = record { answer = rw (opened (O.Atom k m) e, among_none ns declared_at n k u h); within = tt }
+    predicate-name h = record { answer = rw (opened (Some (k, m)) e, among_none ns declared_at n k u h); within = tt }
 
-    pub predicate-is : i < n → Opens n (head_number (keys_at ns declared_at n) (events_of (drop place line))) (P.Predicate (i + 1))
+    pub predicate-is : i < n → Opens n (head_number (keys_at ns declared_at n) (events_of (drop place line))) (Ok (i + 1))
     unfolding opened_number
-    predicate-is h = record { answer = rw (opened (O.Atom k m) e, among-at ns declared_at n k u h, ← u); within = (omega arith, omega arith) }
+    predicate-is h = record { answer = rw (opened (Some (k, m)) e, among-at ns declared_at n k u h, ← u); within = (omega arith, omega arith) }
 
 -- the head's arguments, one after another
 
@@ -160,7 +157,7 @@ arguments-start line place arity vs h = record {
 }
 
 module _ {line : List ℕ} {place₀ arity : ℕ} {vs₀ vs : List ℕ} {place n : ℕ} (l : Arguments line place₀ arity vs₀ vs place n) where
-  pub arguments-done : arity ≤ n → Heads line arity (arguments_from arity [] (events_of (drop place₀ line))) (H.Arguments place) vs
+  pub arguments-done : arity ≤ n → Heads line arity (arguments_from arity [] (events_of (drop place₀ line))) (Ok place) vs
   arguments-done h = record {
     answer =
         let e : arity ≡ n = omega (arith, l.count) in
@@ -169,8 +166,8 @@ module _ {line : List ℕ} {place₀ arity : ℕ} {vs₀ vs : List ℕ} {place n
     within = l.within;
   }
 
-  module _ (h : n < arity) {x : Next} (q : x ≡ next_at line place) {a : Argument} (t : a ≡ argument_of x.event) where
-    next-is : (b : Argument) → a ≡ b → arguments_from arity [] (events_of (drop place₀ line))
+  module _ (h : n < arity) {x : Next} (q : x ≡ next_at line place) {a : Option Key} (t : a ≡ argument_of x.event) where
+    next-is : (b : Option Key) → a ≡ b → arguments_from arity [] (events_of (drop place₀ line))
         ≡ argument_then (arity - (n + 1)) (keys_at vs 0 n) (events_of (drop x.place line)) b
     next-is b e =
         l.still
@@ -179,12 +176,12 @@ module _ {line : List ℕ} {place₀ arity : ℕ} {vs₀ vs : List ℕ} {place n
         ∙ ap (λ (y : Next). argument_then (arity - (n + 1)) (keys_at vs 0 n) (events_of (drop y.place line)) (argument_of y.event)) (sym q)
         ∙ ap (argument_then (arity - (n + 1)) (keys_at vs 0 n) (events_of (drop x.place line))) (sym t ∙ e)
 
-    pub arguments-other : a ≡ A.Other → Heads line arity (arguments_from arity [] (events_of (drop place₀ line))) (H.Refused Form) vs
-    arguments-other e = record { answer = sym (next-is A.Other e); within = tt }
+    pub arguments-other : a ≡ None → Heads line arity (arguments_from arity [] (events_of (drop place₀ line))) (Err Form) vs
+    arguments-other e = record { answer = sym (next-is None e); within = tt }
 
-    module _ {k : Key} {i : ℕ} (e : a ≡ A.Named k) (u : i ≡ place_of k (keys_at vs 0 n)) where
-      pub arguments-twice : i < n → Heads line arity (arguments_from arity [] (events_of (drop place₀ line))) (H.Refused Name) vs
-      arguments-twice g = record { answer = rw (next-is (A.Named k) e, among-at vs 0 n k u g); within = tt }
+    module _ {k : Key} {i : ℕ} (e : a ≡ Some k) (u : i ≡ place_of k (keys_at vs 0 n)) where
+      pub arguments-twice : i < n → Heads line arity (arguments_from arity [] (events_of (drop place₀ line))) (Err Name) vs
+      arguments-twice g = record { answer = rw (next-is (Some k) e, among-at vs 0 n k u g); within = tt }
 
       pub arguments-more : n ≤ i → arity * 2 ≤ length vs₀ → {vs' : List ℕ} → vs' ≡ put_key vs (n * 2) k → Arguments line place₀ arity vs₀ vs' x.place (n + 1)
       arguments-more g w {vs'} z =
@@ -195,29 +192,29 @@ module _ {line : List ℕ} {place₀ arity : ℕ} {vs₀ vs : List ℕ} {place n
             count = omega (arith, h);
             words = ap length z' ∙ length-put vs (0 + n * 2) k ∙ l.words;
             still =
-                rw (next-is (A.Named k) e, among_none vs 0 n k u g)
+                rw (next-is (Some k) e, among_none vs 0 n k u g)
                 (ap (λ ks. arguments_from (arity - (n + 1)) ks (events_of (drop x.place line))) (sym m ∙ ap (λ y. keys_at y 0 (n + 1)) (sym z')));
           }
 
 -- the whole head
 
-module _ (line : List ℕ) (place n : ℕ) {x : Next} (q : x ≡ next_at line place) {o : Opening} (t : o ≡ opening_of x.event) where
-  begins : (p : Opening) → o ≡ p → head_arguments n (events_of (drop place line)) ≡ opened_arguments n p (events_of (drop x.place line))
+module _ (line : List ℕ) (place n : ℕ) {x : Next} (q : x ≡ next_at line place) {o : Option (Key × ℕ)} (t : o ≡ opening_of x.event) where
+  begins : (p : Option (Key × ℕ)) → o ≡ p → head_arguments n (events_of (drop place line)) ≡ opened_arguments n p (events_of (drop x.place line))
   begins p e =
       arguments-at line place n
       ∙ ap (λ (y : Next). opened_arguments n (opening_of y.event) (events_of (drop y.place line))) (sym q)
       ∙ ap (λ c. opened_arguments n c (events_of (drop x.place line))) (sym t ∙ e)
 
-  pub head-other : (vs : List ℕ) → o ≡ O.Other → Heads line n (head_arguments n (events_of (drop place line))) (H.Refused Form) vs
-  head-other vs e = record { answer = sym (begins O.Other e); within = tt }
+  pub head-other : (vs : List ℕ) → o ≡ None → Heads line n (head_arguments n (events_of (drop place line))) (Err Form) vs
+  head-other vs e = record { answer = sym (begins None e); within = tt }
 
-  module _ {k : Key} {m : ℕ} (e : o ≡ O.Atom k m) where
-    pub head-arity : (vs : List ℕ) → (m ≡ n → ⊥) → Heads line n (head_arguments n (events_of (drop place line))) (H.Refused Arity) vs
-    head-arity vs f = record { answer = rw (begins (O.Atom k m) e, ne_eqb m n f); within = tt }
+  module _ {k : Key} {m : ℕ} (e : o ≡ Some (k, m)) where
+    pub head-arity : (vs : List ℕ) → (m ≡ n → ⊥) → Heads line n (head_arguments n (events_of (drop place line))) (Err Arity) vs
+    head-arity vs f = record { answer = rw (begins (Some (k, m)) e, ne_eqb m n f); within = tt }
 
-    pub head-reads : m ≡ n → {r : Headed} {vs : List ℕ} → Heads line n (arguments_from n [] (events_of (drop x.place line))) r vs
+    pub head-reads : m ≡ n → {r : Result ℕ Refusal} {vs : List ℕ} → Heads line n (arguments_from n [] (events_of (drop x.place line))) r vs
         → Heads line n (head_arguments n (events_of (drop place line))) r vs
-    head-reads f g = record { answer = g.answer ∙ sym (rw (begins (O.Atom k m) e, eq-eqb m n f)); within = g.within }
+    head-reads f g = record { answer = g.answer ∙ sym (rw (begins (Some (k, m)) e, eq-eqb m n f)); within = g.within }
 
   pub next-within : place ≤ length line → x.place ≤ length line
   next-within h = (moves line place x q h).0

@@ -1,6 +1,7 @@
 -- What the code that numbers a reward's variables needs to know.
 use Prim.Native.Nat.{ℕ, zero, suc, ◌+◌, ◌-◌, ◌*◌, ◌/◌, ◌%◌, ◌≤◌, ◌<◌}
-use mathlib.Core.Path.{◌≡◌, refl, sym, ap, ap₂, ◌∙◌}
+use Rattle.std.specs.Option.{unwrap_or}
+use mathlib.Core.Path.{◌≡◌, refl, sym, ap, ap₂, ◌∙◌, subst}
 use mathlib.Core.Bool.{Bool, true, false, cond}
 use mathlib.Core.List.{List, [], ◌∷◌, ◌++◌, append-nil, append_assoc}
 use native.Mathlib.Omega.{arith}
@@ -15,18 +16,16 @@ use Rattle.words.specs.Words.{number_form}
 use Rattle.words.specs.WordLaws.{number-inv, value-exact}
 use Rattle.words.specs.Keys.{bytes_within, name_of}
 use Rattle.words.specs.declared.Key.{Key}
-use Rattle.words.specs.declared.Took.{Took}
-use Rattle.words.specs.declared.Took.TheVariants as T
 use Rattle.names.specs.ManyLaws.{get_d-many}
 use Rattle.names.specs.Inner.{put_key}
 use Rattle.names.specs.Keys.{key_at, keys_at}
 use Rattle.names.specs.KeyLaws.{key-ext, length-keys, keys-more, length-put}
 use Rattle.reading.specs.Numbering.{takes, is_numbered, number_of}
-use Rattle.reader.specs.declared.Numbered.{Numbered}
-use Rattle.reader.specs.declared.Numbered.TheVariants as N
 use Rattle.reader.specs.declared.Pair.{Pair}
 use Rattle.reader.specs.Gathering.{whole_number, numbered_as, paired, moved, Spelt, Insertable}
 use Rattle.reader.specs.Callers.{Part, Meets}
+use Rattle.std.specs.Prelude.{Option}
+use Rattle.std.specs.Prelude.{Some, None}
 
 -- ===== The bytes of a key =====
 
@@ -76,9 +75,12 @@ module _ {out₀ : List ℕ} {at m left : ℕ} where
     pub spell-zero : rest ≡ 0 → Spelt out₀ at (bytes_within left m) (at + i) out
     spell-zero e = ended (ap (bytes_within (left - i)) e ∙ no_bytes (left - i))
 
-    pub spell-end : left ≤ i → Spelt out₀ at (bytes_within left m) (at + i) out
+    pub spell-end : left ≤ i → Spelt out₀ at (bytes_within left m) (at + left) out
     unfolding bytes_within
-    spell-end l = let z : left - i ≡ 0 = omega arith in ended (ap (λ (n : ℕ). bytes_within n rest) z)
+    spell-end l =
+        let z : left - i ≡ 0 = omega arith in
+        let e : at + i ≡ at + left = omega (arith, s.within) in
+        subst (λ (r : ℕ). Spelt out₀ at (bytes_within left m) r out) e (ended (ap (λ (n : ℕ). bytes_within n rest) z))
 
     pub spell-more : i < left → (rest ≡ 0 → ⊥) → Spelling out₀ at m left (set out (at + i) (rest % 256)) (i + 1) (rest / 256)
     spell-more l f =
@@ -134,31 +136,31 @@ digits-exact : (s : List ℕ) → run is_digit s ≡ length s → length s ≤ 1
 unfolding decimal
 digits-exact s e l = value-exact s (omega (arith, decimal-most 14 s 0 0 (omega arith) e l, most-few))
 
-module _ (s : List ℕ) {t : Took} (q : t ≡ number_form s) where
-  pub whole-none : t ≡ T.Refused → N.Other ≡ whole_number s
+module _ (s : List ℕ) {t : Option ℕ} (q : t ≡ number_form s) where
+  pub whole-none : t ≡ None → None ≡ whole_number s
   whole-none e = rw (← q, e)
 
-  module _ {n : ℕ} (e : t ≡ T.Bytes n) where
-    pub whole-short : (n ≡ length s → ⊥) → N.Other ≡ whole_number s
+  module _ {n : ℕ} (e : t ≡ Some n) where
+    pub whole-short : (n ≡ length s → ⊥) → None ≡ whole_number s
     whole-short f = rw (← q, e, ne_eqb n (length s) f)
 
     module _ (w : n ≡ length s) where
       pub whole-digits : run is_digit s ≡ length s
       whole-digits = sym (number-inv s (sym q ∙ e)).1 ∙ w
 
-      pub whole-all : {v : ℕ} → length s ≤ 14 → v ≡ value_of s → N.Number v ≡ whole_number s
-      whole-all l p = rw (← q, e, eq-eqb n (length s) w) (ap N.Number (p ∙ digits-exact s whole-digits l))
+      pub whole-all : {v : ℕ} → length s ≤ 14 → v ≡ value_of s → Some v ≡ whole_number s
+      whole-all l p = rw (← q, e, eq-eqb n (length s) w) (ap Some (p ∙ digits-exact s whole-digits l))
 
 module _ (s : List ℕ) {b : ℕ} (q : b ≡ get_or s 0 0) where
-  pub name-other : (b ≡ 118 → ⊥) → N.Other ≡ numbered_as s
+  pub name-other : (b ≡ 118 → ⊥) → None ≡ numbered_as s
   unfolding is_numbered
   name-other f = rw (ne_eqb (get_or s 0 0) 118 (λ (e : get_or s 0 0 ≡ 118). f (q ∙ e)))
 
-  pub name-whole : b ≡ 118 → {w : List ℕ} {r : Numbered} → w ≡ drop 1 s → r ≡ whole_number w → r ≡ numbered_as s
+  pub name-whole : b ≡ 118 → {w : List ℕ} {r : Option ℕ} → w ≡ drop 1 s → r ≡ whole_number w → r ≡ numbered_as s
   unfolding is_numbered number_of
   name-whole e p g = g ∙ ap whole_number p ∙ rw (eq-eqb (get_or s 0 0) 118 (sym q ∙ e)) (go (takes (length (drop 1 s)) (number_form (drop 1 s))))
     where
-      go : (x : Bool) → cond x (N.Number (decimal (drop 1 s))) N.Other ≡ cond x (N.Number (cond x (decimal (drop 1 s)) 0)) N.Other
+      go : (x : Bool) → cond x (Some (decimal (drop 1 s))) None ≡ cond x (Some (cond x (decimal (drop 1 s)) 0)) None
       go true = refl
       go false = refl
 
@@ -183,34 +185,41 @@ module _ (k : Key) {out₀ out₁ : List ℕ} {m : ℕ} (x : Spelt out₀ 0 (byt
     unfolding name_of
     spelt-name = y.words ∙ ap (λ (s : List ℕ). s ++ bytes_within 7 k.b) x.words
 
-    pub key-number : {r : Numbered} → r ≡ numbered_as (take e out₂) → r ≡ numbered_as (name_of k)
+    pub key-number : {r : Option ℕ} → r ≡ numbered_as (take e out₂) → r ≡ numbered_as (name_of k)
     key-number q = q ∙ ap numbered_as spelt-name
 
-module _ (s : List ℕ) {t : Numbered} (q : t ≡ numbered_as s) where
-  pub order-number : {n : ℕ} → t ≡ N.Number n → n ≡ number_of s
+module _ (s : List ℕ) {t : Option ℕ} (q : t ≡ numbered_as s) where
+  pub order-number : {n : ℕ} → t ≡ Some n → n ≡ number_of s
   order-number {n} e = go (is_numbered s) (sym e ∙ q)
     where
-      go : (b : Bool) → N.Number n ≡ cond b (N.Number (number_of s)) N.Other → n ≡ number_of s
+      go : (b : Bool) → Some n ≡ cond b (Some (number_of s)) None → n ≡ number_of s
       go true z = cc
       go false z = let y : ◌≡◌ {A = ℕ} 0 1 = cc in absurd (omega arith)
 
-  pub order_is : {n : ℕ} → t ≡ N.Number n → is_numbered s ≡ true
+  pub order_is : {n : ℕ} → t ≡ Some n → is_numbered s ≡ true
   order_is {n} e = go (is_numbered s) (sym e ∙ q)
     where
-      go : (b : Bool) → N.Number n ≡ cond b (N.Number (number_of s)) N.Other → b ≡ true
+      go : (b : Bool) → Some n ≡ cond b (Some (number_of s)) None → b ≡ true
       go true z = refl
       go false z = let y : ◌≡◌ {A = ℕ} 0 1 = cc in absurd (omega arith)
 
-  pub order-not : t ≡ N.Other → is_numbered s ≡ false
+  pub order-not : t ≡ None → is_numbered s ≡ false
   order-not e = go (is_numbered s) (sym e ∙ q)
     where
-      go : (b : Bool) → N.Other ≡ cond b (N.Number (number_of s)) N.Other → b ≡ false
+      go : (b : Bool) → None ≡ cond b (Some (number_of s)) None → b ≡ false
       go true z = let y : ◌≡◌ {A = ℕ} 0 1 = cc in absurd (omega arith)
       go false z = refl
 
-  pub order_other : t ≡ N.Other → 0 ≡ number_of s
+  order_other : t ≡ None → 0 ≡ number_of s
   unfolding number_of
   order_other e = rw (order-not e)
+
+  pub order-is : {v : ℕ} → v ≡ unwrap_or t 0 → v ≡ number_of s
+  order-is e = e ∙ go t refl
+    where
+      go : (o : Option ℕ) → t ≡ o → unwrap_or o 0 ≡ number_of s
+      go (Some n) i = order-number i
+      go None i = order_other i
 
 -- ===== Sorted in =====
 

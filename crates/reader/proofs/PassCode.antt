@@ -28,13 +28,11 @@ use Rattle.reading.specs.Operations.Op.{ask}
 use Rattle.reading.specs.Reading.{Pass, more, asked, begun, term_word, number_word, atom_word}
 use Rattle.reader.specs.declared.Scope.{Scope}
 use Rattle.reader.specs.declared.Progress.{Progress}
-use Rattle.reader.specs.declared.Stepped.{Stepped}
-use Rattle.reader.specs.declared.Stepped.TheVariants as S
-use Rattle.reader.specs.declared.Resolved.{Resolved}
-use Rattle.reader.specs.declared.Resolved.TheVariants as R
 use Rattle.reader.specs.OperationWords.{op_of, op_at, ops_in}
 use Rattle.reader.specs.Callers.{names_of, placed, atom_of, pass_of, judged_number, Tables, Room, Fillable, TermBelow, Goes, Steps}
 use Rattle.reader.proofs.FillCode.{whole, empty-unpacked, empty-packs, empty-unfilled, placed-places, placed-other, placed-packs}
+use Rattle.std.specs.Prelude.{Result}
+use Rattle.std.specs.Prelude.{Ok, Err}
 
 -- one operation more
 
@@ -167,7 +165,7 @@ module _ (os : List ℕ) (p : Progress) (t : ℕ) (l : Label) (w : Room os p) (f
       ∙ ap (λ (m : ℕ). take m (set (places_of (atom_of p)) p.filled t)) n
       ∙ take-suc-set (places_of (atom_of p)) p.filled t (omega (arith, w.going.places))
 
-  pub give-goes : {r : Progress} {os' : List ℕ} → Goes (next p l) (asked (pass_of os (next p l))) r os' → Steps p (term_word (pass_of os p) (ok t)) (S.Done r) os'
+  pub give-goes : {r : Progress} {os' : List ℕ} → Goes (next p l) (asked (pass_of os (next p l))) r os' → Steps p (term_word (pass_of os p) (ok t)) (Ok r) os'
   unfolding term_word
   give-goes g = record {
     answer =
@@ -177,49 +175,49 @@ module _ (os : List ℕ) (p : Progress) (t : ℕ) (l : Label) (w : Room os p) (f
     advanced = record { going = g.advanced.going; one = g.advanced.one };
   }
 
-pub give-none : (os : List ℕ) (p : Progress) (t : ℕ) → p.due ≡ 0 → Steps p (term_word (pass_of os p) (ok t)) (S.Refused Form) os
+pub give-none : (os : List ℕ) (p : Progress) (t : ℕ) → p.due ≡ 0 → Steps p (term_word (pass_of os p) (ok t)) (Err Form) os
 unfolding term_word
 give-none os p t e = record { answer = rw (eq-eqb p.due 0 e); advanced = tt }
 
 -- a term, resolved
 
-pub term-below : {r : Resolved} {t : ℕ} → TermBelow r → r ≡ R.Number t → t < term_end
+pub term-below : {r : Result ℕ Refusal} {t : ℕ} → TermBelow r → r ≡ Ok t → t < term_end
 term-below h e = subst TermBelow e h
 
-module _ (os : List ℕ) (p : Progress) {r : Resolved} where
-  pub term-number : {t : ℕ} {x : Stepped} {os' : List ℕ} → r ≡ R.Number t → Steps p (term_word (pass_of os p) (ok t)) x os'
+module _ (os : List ℕ) (p : Progress) {r : Result ℕ Refusal} where
+  pub term-number : {t : ℕ} {x : Result Progress Refusal} {os' : List ℕ} → r ≡ Ok t → Steps p (term_word (pass_of os p) (ok t)) x os'
       → Steps p (term_word (pass_of os p) (judged_number r)) x os'
   term-number e g = rw e g
 
-  pub term-refused : {x : Refusal} → r ≡ R.Refused x → Steps p (term_word (pass_of os p) (judged_number r)) (S.Refused x) os
+  pub term-refused : {x : Refusal} → r ≡ Err x → Steps p (term_word (pass_of os p) (judged_number r)) (Err x) os
   unfolding term_word
   term-refused e = rw e (record { answer = refl; advanced = tt })
 
 -- a leaf
 
-pub number-range : (os : List ℕ) (p : Progress) (v : ℕ) → highest_value < v → Steps p (number_word (pass_of os p) v) (S.Refused Range) os
+pub number-range : (os : List ℕ) (p : Progress) (v : ℕ) → highest_value < v → Steps p (number_word (pass_of os p) v) (Err Range) os
 unfolding number_word
 number-range os p v h = record { answer = rw (lt-leb v highest_value h); advanced = tt }
 
 pub number-goes : (os : List ℕ) (p : Progress) (v : ℕ) {r : Progress} {os' : List ℕ} → v ≤ highest_value → Goes p (more (pass_of os p) (op_of 0 v)) r os'
-    → Steps p (number_word (pass_of os p) v) (S.Done r) os'
+    → Steps p (number_word (pass_of os p) v) (Ok r) os'
 unfolding number_word
 number-goes os p v h g = record { answer = rw (le-leb v highest_value h) (ap ok g.pass); advanced = g.advanced }
 
 -- an atom's name
 
 module _ (ns ar os : List ℕ) (s : Scope) (p : Progress) (k : Key) (n : ℕ) {i : ℕ} (q : i ≡ place_of k (keys_at ns declared_at s.predicates)) where
-  pub atom-name : s.predicates ≤ i → Steps p (atom_word (names_of ns ar s) (pass_of os p) k n) (S.Refused Name) os
+  pub atom-name : s.predicates ≤ i → Steps p (atom_word (names_of ns ar s) (pass_of os p) k n) (Err Name) os
   unfolding atom_word
   atom-name h = record { answer = rw (among_none ns declared_at s.predicates k q h); advanced = tt }
 
   module _ (l : i < s.predicates) where
-    pub atom-arity : (n ≡ get_or ar (i + 1) 0 → ⊥) → Steps p (atom_word (names_of ns ar s) (pass_of os p) k n) (S.Refused Arity) os
+    pub atom-arity : (n ≡ get_or ar (i + 1) 0 → ⊥) → Steps p (atom_word (names_of ns ar s) (pass_of os p) k n) (Err Arity) os
     unfolding atom_word
     atom-arity f = record { answer = rw (among-at ns declared_at s.predicates k q l, ← q, ne_eqb n (get_or ar (i + 1) 0) f); advanced = tt }
 
     pub atom-goes : n ≡ get_or ar (i + 1) 0 → {r : Progress} {os' : List ℕ} → Goes p (begun (pass_of os p) (i + 1) n) r os'
-        → Steps p (atom_word (names_of ns ar s) (pass_of os p) k n) (S.Done r) os'
+        → Steps p (atom_word (names_of ns ar s) (pass_of os p) k n) (Ok r) os'
     unfolding atom_word
     atom-goes e g = record { answer = rw (among-at ns declared_at s.predicates k q l, ← q, eq-eqb n (get_or ar (i + 1) 0) e) (ap ok g.pass); advanced = g.advanced }
 

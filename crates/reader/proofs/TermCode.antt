@@ -1,5 +1,6 @@
 -- What the code of terms and variables needs to know.
 use Prim.Native.Nat.{ℕ, ◌+◌, ◌*◌, ◌≤◌, ◌<◌, min}
+use mathlib.Core.Logic.{◌⊎◌, inl, inr}
 use mathlib.Core.Path.{◌≡◌, refl, sym, ap, subst, ◌∙◌}
 use mathlib.Core.List.{List, [], ◌∷◌}
 use native.Mathlib.Omega.{arith}
@@ -22,29 +23,30 @@ use Rattle.reading.specs.declared.Binding.{Binding}
 use Rattle.reading.specs.declared.Binding.TheVariants.{Any, None, Only}
 use Rattle.reading.specs.Reading.{constant_number, parameter_number, met, variable_met, minimum_met, met_at, last_variable, number_in, variable_number, minimum_number}
 use Rattle.reader.specs.declared.Known.{Known}
-use Rattle.reader.specs.declared.Resolved.{Resolved}
-use Rattle.reader.specs.declared.Resolved.TheVariants as R
 use Rattle.reader.specs.Callers.{part_words, met_in, Part, Variables, Resolves, Meets, MeetsWord}
+use Rattle.refusal.specs.declared.Refusal.{Refusal}
+use Rattle.std.specs.Prelude.{Result}
+use Rattle.std.specs.Prelude.{Ok, Err}
 
 module _ (ns : List ℕ) (n : ℕ) (k : Key) {i : ℕ} where
-  pub constant-none : i ≡ place_of k (keys_at ns constants_at n) → n ≤ i → Resolves (constant_number (keys_at ns constants_at n) k) (R.Refused Name)
+  pub constant-none : i ≡ place_of k (keys_at ns constants_at n) → n ≤ i → Resolves (constant_number (keys_at ns constants_at n) k) (Err Name)
   unfolding constant_number
   constant-none q h = record { answer = rw (among_none ns constants_at n k q h); below = tt }
 
   pub constant-is : i ≡ place_of k (keys_at ns constants_at n) → i < n → n ≤ constant_count → {v : ℕ} → v ≡ constant_term i
-      → Resolves (constant_number (keys_at ns constants_at n) k) (R.Number v)
+      → Resolves (constant_number (keys_at ns constants_at n) k) (Ok v)
   unfolding constant_number
-  constant-is q h l e = subst (λ (x : ℕ). Resolves (constant_number (keys_at ns constants_at n) k) (R.Number x)) (sym e)
+  constant-is q h l e = subst (λ (x : ℕ). Resolves (constant_number (keys_at ns constants_at n) k) (Ok x)) (sym e)
       (record { answer = rw (among-at ns constants_at n k q h, ← q); below = omega arith })
 
-  pub parameter-none : i ≡ place_of k (keys_at ns parameters_at n) → n ≤ i → Resolves (parameter_number (keys_at ns parameters_at n) k) (R.Refused Unbound)
+  pub parameter-none : i ≡ place_of k (keys_at ns parameters_at n) → n ≤ i → Resolves (parameter_number (keys_at ns parameters_at n) k) (Err Unbound)
   unfolding parameter_number
   parameter-none q h = record { answer = rw (among_none ns parameters_at n k q h); below = tt }
 
   pub parameter-is : i ≡ place_of k (keys_at ns parameters_at n) → i < n → n ≤ parameter_count → {v : ℕ} → v ≡ parameter_term i
-      → Resolves (parameter_number (keys_at ns parameters_at n) k) (R.Number v)
+      → Resolves (parameter_number (keys_at ns parameters_at n) k) (Ok v)
   unfolding parameter_number
-  parameter-is q h l e = subst (λ (x : ℕ). Resolves (parameter_number (keys_at ns parameters_at n) k) (R.Number x)) (sym e)
+  parameter-is q h l e = subst (λ (x : ℕ). Resolves (parameter_number (keys_at ns parameters_at n) k) (Ok x)) (sym e)
       (record { answer = rw (among-at ns parameters_at n k q h, ← q); below = omega arith })
 
 -- a variable's number
@@ -54,27 +56,27 @@ unfolding number_in
 number_is first ks k q e = e ∙ ap (λ j. first + min j last_variable) q
 
 module _ (vs : List ℕ) (n : ℕ) (k : Key) {i v : ℕ} (q : i ≡ place_of k (keys_at vs 0 n)) where
-  pub any-is : v ≡ variable_term (min i last_variable) → Resolves (variable_number Any (keys_at vs 0 n) k) (R.Number v)
+  pub any-is : v ≡ variable_term (min i last_variable) → Resolves (variable_number Any (keys_at vs 0 n) k) (Ok v)
   unfolding variable_number
   any-is e = record { answer = ap ok (number_is first_variable (keys_at vs 0 n) k q e); below = omega arith }
 
-  pub bound-is : i < n → v ≡ variable_term (min i last_variable) → Resolves (variable_number Only (keys_at vs 0 n) k) (R.Number v)
+  pub bound-is : i < n → v ≡ variable_term (min i last_variable) → Resolves (variable_number Only (keys_at vs 0 n) k) (Ok v)
   unfolding variable_number
   bound-is h e = record { answer = rw (among-at vs 0 n k q h, ← number_is first_variable (keys_at vs 0 n) k q e); below = omega arith }
 
 pub bound-none : (vs : List ℕ) (n : ℕ) (k : Key) {i : ℕ} → i ≡ place_of k (keys_at vs 0 n) → n ≤ i
-    → Resolves (variable_number Only (keys_at vs 0 n) k) (R.Refused Unbound)
+    → Resolves (variable_number Only (keys_at vs 0 n) k) (Err Unbound)
 unfolding variable_number
 bound-none vs n k q h = record { answer = rw (among_none vs 0 n k q h); below = tt }
 
-module _ (b : Binding) (vs : List Key) (k : Key) {r : Resolved} where
+module _ (b : Binding) (vs : List Key) (k : Key) {r : Result ℕ Refusal} where
   pub number-any : b ≡ Any → Resolves (variable_number Any vs k) r → Resolves (variable_number b vs k) r
   number-any e g = rw e g
 
   pub number-only : b ≡ Only → Resolves (variable_number Only vs k) r → Resolves (variable_number b vs k) r
   number-only e g = rw e g
 
-pub number-none : (b : Binding) (vs : List Key) (k : Key) → b ≡ None → Resolves (variable_number b vs k) (R.Refused Unbound)
+pub number-none : (b : Binding) (vs : List Key) (k : Key) → b ≡ None → Resolves (variable_number b vs k) (Err Unbound)
 unfolding variable_number
 number-none b vs k e = rw e (record { answer = refl; below = tt })
 
@@ -82,17 +84,14 @@ number-none b vs k e = rw e (record { answer = refl; below = tt })
 
 module _ (vs : List ℕ) (n : ℕ) (b : Binding) (k : Key) where
   pub minimum-is : b ≡ Any → {i v : ℕ} → i ≡ place_of k (keys_at vs part_words n) → v ≡ minimum_term (min i last_variable)
-      → Resolves (minimum_number b (keys_at vs part_words n) k) (R.Number v)
+      → Resolves (minimum_number b (keys_at vs part_words n) k) (Ok v)
   unfolding minimum_number
   minimum-is z q e = rw z (record { answer = ap ok (number_is first_minimum (keys_at vs part_words n) k q e); below = omega arith })
 
-  pub minimum-none : b ≡ None → Resolves (minimum_number b (keys_at vs part_words n) k) (R.Refused Unbound)
+  pub minimum-unbound : (b ≡ None) ⊎ (b ≡ Only) → Resolves (minimum_number b (keys_at vs part_words n) k) (Err Unbound)
   unfolding minimum_number
-  minimum-none z = rw z (record { answer = refl; below = tt })
-
-  pub minimum-only : b ≡ Only → Resolves (minimum_number b (keys_at vs part_words n) k) (R.Refused Unbound)
-  unfolding minimum_number
-  minimum-only z = rw z (record { answer = refl; below = tt })
+  minimum-unbound (inl z) = rw z (record { answer = refl; below = tt })
+  minimum-unbound (inr z) = rw z (record { answer = refl; below = tt })
 
 -- a part of the table of variables
 
@@ -119,13 +118,10 @@ module _ (b : Binding) (vs : List ℕ) (n : ℕ) (k : Key) where
   pub meet-any : b ≡ Any → {r : ℕ} {vs' : List ℕ} → Meets (met Any (keys_at vs 0 n) k) r vs' → Meets (met b (keys_at vs 0 n) k) r vs'
   meet-any e g = rw e g
 
-  pub meet-none : b ≡ None → Part vs n → Meets (met b (keys_at vs 0 n) k) n vs
+  pub meet-bound : (b ≡ None) ⊎ (b ≡ Only) → Part vs n → Meets (met b (keys_at vs 0 n) k) n vs
   unfolding met
-  meet-none e t = rw e (record { variables = refl; table = t })
-
-  pub meet-only : b ≡ Only → Part vs n → Meets (met b (keys_at vs 0 n) k) n vs
-  unfolding met
-  meet-only e t = rw e (record { variables = refl; table = t })
+  meet-bound (inl e) t = rw e (record { variables = refl; table = t })
+  meet-bound (inr e) t = rw e (record { variables = refl; table = t })
 
 -- a word's variables
 

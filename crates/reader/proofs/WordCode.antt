@@ -29,20 +29,17 @@ use Rattle.reading.specs.Reading.{variable_number, minimum_number, arguments, me
 use Rattle.reader.specs.declared.Scope.{Scope}
 use Rattle.reader.specs.declared.Known.{Known}
 use Rattle.reader.specs.declared.Progress.{Progress}
-use Rattle.reader.specs.declared.Stepped.{Stepped}
-use Rattle.reader.specs.declared.Stepped.TheVariants as S
-use Rattle.reader.specs.declared.Resolved.{Resolved}
-use Rattle.reader.specs.declared.Read.{Read}
-use Rattle.reader.specs.declared.Read.TheVariants as W
 use Rattle.reader.specs.OperationWords.{op_of, ops_in}
-use Rattle.reader.specs.Callers.{part_words, met_in, argument_count, names_of, pass_of, state_of, judged_number, judged_pass, read_answer, refused_read, judged_written}
+use Rattle.reader.specs.Callers.{part_words, met_in, argument_count, names_of, pass_of, state_of, judged_number, judged_pass, read_answer, judged_written}
 use Rattle.reader.specs.Callers.{ReadWithin, Reads, Variables, Readable, Going, Room, Advanced, AdvancedBy, Resolves, MeetsWord, Goes, Steps}
 use Rattle.reader.proofs.FillCode.{empty-unpacked, empty-packs, empty-unfilled}
+use Rattle.std.specs.Prelude.{Result}
+use Rattle.std.specs.Prelude.{Ok, Err}
 
 -- a word by its kind
 
 module _ (ns ar : List ℕ) (s : Scope) (vs : Met) (os : List ℕ) (p : Progress) (e : Event) where
-  module _ {t : Resolved} {r : Stepped} {os' : List ℕ} (g : Steps p (term_word (pass_of os p) (judged_number t)) r os') {k : Key} where
+  module _ {t : Result ℕ Refusal} {r : Result Progress Refusal} {os' : List ℕ} (g : Steps p (term_word (pass_of os p) (judged_number t)) r os') {k : Key} where
     pub word-name : e ≡ E.Name k → Resolves (constant_number (keys_at ns constants_at s.constants) k) t → Steps p (word (names_of ns ar s) vs (pass_of os p) e) r os'
     unfolding word
     word-name q h = rw (q, ← h.answer) g
@@ -60,44 +57,44 @@ module _ (ns ar : List ℕ) (s : Scope) (vs : Met) (os : List ℕ) (p : Progress
     word-minimum q h = rw (q, ← h.answer) g
 
   module _ {os' : List ℕ} where
-    pub word_number : {v : ℕ} {r : Stepped} → e ≡ E.Number v → Steps p (number_word (pass_of os p) v) r os' → Steps p (word (names_of ns ar s) vs (pass_of os p) e) r os'
+    pub word_number : {v : ℕ} {r : Result Progress Refusal} → e ≡ E.Number v → Steps p (number_word (pass_of os p) v) r os' → Steps p (word (names_of ns ar s) vs (pass_of os p) e) r os'
     unfolding word
     word_number q g = rw q g
 
-    pub word-equal : {r : Progress} → e ≡ E.Equal → Goes p (begun (pass_of os p) equality equality_arity) r os' → Steps p (word (names_of ns ar s) vs (pass_of os p) e) (S.Done r) os'
+    pub word-equal : {r : Progress} → e ≡ E.Equal → Goes p (begun (pass_of os p) equality equality_arity) r os' → Steps p (word (names_of ns ar s) vs (pass_of os p) e) (Ok r) os'
     unfolding word
     word-equal q g = rw q (record { answer = ap ok g.pass; advanced = g.advanced })
 
-    pub word_holds : {k : Key} {n : ℕ} {r : Stepped} → e ≡ E.Holds k n → Steps p (atom_word (names_of ns ar s) (pass_of os p) k n) r os'
+    pub word_holds : {k : Key} {n : ℕ} {r : Result Progress Refusal} → e ≡ E.Holds k n → Steps p (atom_word (names_of ns ar s) (pass_of os p) k n) r os'
         → Steps p (word (names_of ns ar s) vs (pass_of os p) e) r os'
     unfolding word
     word_holds q g = rw q g
 
-    pub word-step : {r : Progress} → e ≡ E.Step → Goes p (more (pass_of os p) (op_of 3 0)) r os' → Steps p (word (names_of ns ar s) vs (pass_of os p) e) (S.Done r) os'
+    pub word-step : {r : Progress} → e ≡ E.Step → Goes p (more (pass_of os p) (op_of 3 0)) r os' → Steps p (word (names_of ns ar s) vs (pass_of os p) e) (Ok r) os'
     unfolding word
     word-step q g = rw q (record { answer = ap ok g.pass; advanced = g.advanced })
 
-  pub word_end : e ≡ E.End → Room os p → Steps p (word (names_of ns ar s) vs (pass_of os p) e) (S.Done p) os
+  pub word_end : e ≡ E.End → Room os p → Steps p (word (names_of ns ar s) vs (pass_of os p) e) (Ok p) os
   unfolding word
   word_end q g = rw q (record { answer = refl; advanced = record { going = g.going; one = omega arith } })
 
 -- the answer after all words
 
 module _ (n : Known) (m : ℕ) where
-  pub finish-variables : variable_count < n.variables → W.Refused F.Variables ≡ read_answer n m
+  pub finish-variables : variable_count < n.variables → Err F.Variables ≡ read_answer n m
   finish-variables h = rw (lt-leb n.variables variable_count h)
 
-  pub finish-minimums : n.variables ≤ variable_count → minimum_count < n.minimums → W.Refused F.Variables ≡ read_answer n m
+  pub finish-minimums : n.variables ≤ variable_count → minimum_count < n.minimums → Err F.Variables ≡ read_answer n m
   finish-minimums h l = rw (le-leb n.variables variable_count h, lt-leb n.minimums minimum_count l)
 
-  pub finish-done : n.variables ≤ variable_count → n.minimums ≤ minimum_count → W.Done m n ≡ read_answer n m
+  pub finish-done : n.variables ≤ variable_count → n.minimums ≤ minimum_count → Ok (m, n) ≡ read_answer n m
   finish-done h l = rw (le-leb n.variables variable_count h, le-leb n.minimums minimum_count l)
 
 answer-finished : (vs : List ℕ) (n : Known) (os : List ℕ) (p : Progress) → judged_written vs os (read_answer n p.operations) ≡ finished (state_of vs n os p)
 answer-finished vs n os p =
     rw (length-keys vs 0 n.variables, length-keys vs part_words n.minimums) (go (leb n.variables variable_count && leb n.minimums minimum_count))
   where
-    go : (b : Bool) → judged_written vs os (cond b (W.Done p.operations n) (W.Refused F.Variables))
+    go : (b : Bool) → judged_written vs os (cond b (Ok (p.operations, n)) (Err F.Variables))
         ≡ cond b (ok (record { met = met_in vs n; operations = ops_in os p.operations })) (refused F.Variables)
     go true = refl
     go false = refl
@@ -105,7 +102,7 @@ answer-finished vs n os p =
 answer-within : (os : List ℕ) (n : Known) (m : ℕ) → m * 2 ≤ length os → ReadWithin os (read_answer n m)
 answer-within os n m h = go (leb n.variables variable_count && leb n.minimums minimum_count)
   where
-    go : (b : Bool) → ReadWithin os (cond b (W.Done m n) (W.Refused F.Variables))
+    go : (b : Bool) → ReadWithin os (cond b (Ok (m, n)) (Err F.Variables))
     go true = h
     go false = tt
 
@@ -147,7 +144,7 @@ unfolding read_words
 words_more σ es fs e s q = rw q
 
 -- r answers for the words of the line
-abbrev Answers : List ℕ → ℕ → List ℕ → List ℕ → List ℕ → Scope → Known → List ℕ → List ℕ → Read → Type 0
+abbrev Answers : List ℕ → ℕ → List ℕ → List ℕ → List ℕ → Scope → Known → List ℕ → List ℕ → Result (ℕ × Known) Refusal → Type 0
 Answers line place ns ar vs₀ s known vs os r = Reads (reading (names_of ns ar s) (events_of (drop place line)) (met_in vs₀ known)) r vs os
 
 module _ {line : List ℕ} {place₀ : ℕ} {ns ar vs₀ os₀ : List ℕ} {s : Scope} {known : Known} where
@@ -177,12 +174,12 @@ module _ {line : List ℕ} {place₀ : ℕ} {ns ar vs₀ os₀ : List ℕ} {s : 
     }
 
     -- the last byte passed
-    pub loop-over : Readable line place₀ ns ar vs₀ os₀ s known → {r : Read} → length line ≤ place → r ≡ read_answer count p.operations → Answers line place₀ ns ar vs₀ s known vs os r
+    pub loop-over : Readable line place₀ ns ar vs₀ os₀ s known → {r : Result (ℕ × Known) Refusal} → length line ≤ place → r ≡ read_answer count p.operations → Answers line place₀ ns ar vs₀ s known vs os r
     loop-over g h q = rw q (finishes g (events-short (drop place line) (omega (arith, length-drop place line))))
 
     module _ {n : Next} (q : n ≡ next_at line place) {b : Bool} (t : b ≡ is_end n.event) where
       -- the line's end
-      pub loop-end : Readable line place₀ ns ar vs₀ os₀ s known → {r : Read} → b ≡ true → r ≡ read_answer count p.operations → Answers line place₀ ns ar vs₀ s known vs os r
+      pub loop-end : Readable line place₀ ns ar vs₀ os₀ s known → {r : Result (ℕ × Known) Refusal} → b ≡ true → r ≡ read_answer count p.operations → Answers line place₀ ns ar vs₀ s known vs os r
       loop-end g e a = rw a (finishes g (events-none line place n q (sym t ∙ e)))
 
       pub loop-room : Readable line place₀ ns ar vs₀ os₀ s known → place < length line → Room os p
@@ -192,7 +189,7 @@ module _ {line : List ℕ} {place₀ : ℕ} {ns ar vs₀ os₀ : List ℕ} {s : 
         pub loop-shrinks : length line - n.place < length line - place
         loop-shrinks = let m = moves line place n q l.within in omega (arith, m.0, m.1 (sym t ∙ f))
 
-        module _ {vs' os' : List ℕ} {count' : Known} {x : Stepped} (m : MeetsWord (met_at s.binding (met_in vs count) n.event) count' vs')
+        module _ {vs' os' : List ℕ} {count' : Known} {x : Result Progress Refusal} (m : MeetsWord (met_at s.binding (met_in vs count) n.event) count' vs')
             (g : Steps p (word (names_of ns ar s) (met_in vs' count') (pass_of os p) n.event) x os') where
           stepped : read_words (names_of ns ar s) (events_of (drop place₀ line)) (begin (met_in vs₀ known))
               ≡ and_then (with-pass (met_in vs' count') (judged_pass os' x)) (read_words (names_of ns ar s) (events_of (drop n.place line)))
@@ -204,17 +201,17 @@ module _ {line : List ℕ} {place₀ : ℕ} {ns ar vs₀ os₀ : List ℕ} {s : 
               ∙ ap (λ ks. and_then (with-pass ks (word σ ks (pass_of os p) n.event)) (read_words σ fs)) (sym m.met)
               ∙ ap (λ j. and_then (with-pass (met_in vs' count') j) (read_words σ fs)) (sym g.answer)
 
-          pub loop-refused : {z : Refusal} {r : Read} → x ≡ S.Refused z → r ≡ refused_read x → Answers line place₀ ns ar vs₀ s known vs' os' r
+          pub loop-refused : {z : Refusal} {r : Result (ℕ × Known) Refusal} → x ≡ Err z → r ≡ Err z → Answers line place₀ ns ar vs₀ s known vs' os' r
           unfolding reading
           loop-refused {z} e a = record {
             answer =
-                ap (judged_written vs' os') (a ∙ ap refused_read e)
+                ap (judged_written vs' os') a
                 ∙ ap (λ j. and_then j finished)
                 (sym (stepped ∙ ap (λ y. and_then (with-pass (met_in vs' count') (judged_pass os' y)) (read_words (names_of ns ar s) (events_of (drop n.place line)))) e));
-            within = subst (ReadWithin os') (sym (a ∙ ap refused_read e)) tt;
+            within = subst (ReadWithin os') (sym a) tt;
           }
 
-          pub loop-more : {then : Progress} → x ≡ S.Done then → length vs' ≡ length vs → length os' ≡ length os
+          pub loop-more : {then : Progress} → x ≡ Ok then → length vs' ≡ length vs → length os' ≡ length os
               → Loop line place₀ ns ar vs₀ os₀ s known vs' os' n.place count' then
           loop-more {then} e y w =
               let k = moves line place n q l.within in
@@ -235,15 +232,7 @@ no_keys : (vs : List ℕ) (at : ℕ) → keys_at vs at 0 ≡ []
 unfolding keys_at many
 no_keys vs at = refl
 
-pub words-read : (line : List ℕ) (place : ℕ) (ns ar vs : List ℕ) (s : Scope) (n : ℕ) {r : Read} {vs' os' : List ℕ} → Answers line place ns ar vs s (argument_count n) vs' os' r
+pub words-read : (line : List ℕ) (place : ℕ) (ns ar vs : List ℕ) (s : Scope) (n : ℕ) {r : Result (ℕ × Known) Refusal} {vs' os' : List ℕ} → Answers line place ns ar vs s (argument_count n) vs' os' r
     → Reads (reading (names_of ns ar s) (events_of (drop place line)) (arguments (keys_at vs 0 n))) r vs' os'
 words-read line place ns ar vs s n {r} {vs'} {os'} g =
     subst (λ (ms : List Key). Reads (reading (names_of ns ar s) (events_of (drop place line)) (record { variables = keys_at vs 0 n; minimums = ms })) r vs' os') (no_keys vs part_words) g
-
--- a refusal handed up
-
-pub hand-refused : (x : Stepped) {z : Refusal} → x ≡ S.Refused z → W.Refused z ≡ refused_read x
-hand-refused x e = rw e
-
-pub hand-done : (x : Stepped) {p : Progress} → x ≡ S.Done p → W.Refused F.Form ≡ refused_read x
-hand-done x e = rw e

@@ -15,17 +15,10 @@ use Rattle.reading.specs.Reading.{Environment, Met, Pass, State, Written}
 use Rattle.reader.specs.declared.Scope.{Scope}
 use Rattle.reader.specs.declared.Known.{Known}
 use Rattle.reader.specs.declared.Progress.{Progress}
-use Rattle.reader.specs.declared.Resolved.{Resolved}
-use Rattle.reader.specs.declared.Resolved.TheVariants as R
-use Rattle.reader.specs.declared.Stepped.{Stepped}
-use Rattle.reader.specs.declared.Stepped.TheVariants as S
-use Rattle.reader.specs.declared.Read.{Read}
-use Rattle.reader.specs.declared.Read.TheVariants as W
-use Rattle.reader.specs.declared.Opened.{Opened}
-use Rattle.reader.specs.declared.Opened.TheVariants as P
-use Rattle.reader.specs.declared.Headed.{Headed}
-use Rattle.reader.specs.declared.Headed.TheVariants as H
 use Rattle.reader.specs.OperationWords.{ops_in}
+use Rattle.refusal.specs.declared.Refusal.{Refusal}
+use Rattle.std.specs.Prelude.{Result}
+use Rattle.std.specs.Prelude.{Ok, Err}
 
 -- a table of variables has a part for each kind, which keeps one more than the limit, of two words each: the maximum variables first
 abbrev pub kept_count : ℕ
@@ -72,67 +65,63 @@ pass_of os p = record {
   operations = ops_in os p.operations;
 }
 
-abbrev pub judged_number : Resolved → Outcome ℕ
-judged_number (R.Number t) = ok t
-judged_number (R.Refused r) = refused r
+abbrev pub judged_number : Result ℕ Refusal → Outcome ℕ
+judged_number (Ok t) = ok t
+judged_number (Err r) = refused r
 
-abbrev pub judged_pass : List ℕ → Stepped → Outcome Pass
-judged_pass os (S.Done p) = ok (pass_of os p)
-judged_pass os (S.Refused r) = refused r
+abbrev pub judged_pass : List ℕ → Result Progress Refusal → Outcome Pass
+judged_pass os (Ok p) = ok (pass_of os p)
+judged_pass os (Err r) = refused r
 
 -- and the state that its words have come to
 abbrev pub state_of : List ℕ → Known → List ℕ → Progress → State
 state_of vs n os p = record { met = met_in vs n; pass = pass_of os p }
 
 -- the answer after all words, with n variables and m operations
-abbrev pub read_answer : Known → ℕ → Read
-read_answer n m = cond (leb n.variables variable_count && leb n.minimums minimum_count) (W.Done m n) (W.Refused F.Variables)
+abbrev pub read_answer : Known → ℕ → Result (ℕ × Known) Refusal
+read_answer n m = cond (leb n.variables variable_count && leb n.minimums minimum_count) (Ok (m, n)) (Err F.Variables)
 
-abbrev pub refused_read : Stepped → Read
-refused_read (S.Done p) = W.Refused F.Form
-refused_read (S.Refused r) = W.Refused r
-
-abbrev pub judged_written : List ℕ → List ℕ → Read → Outcome Written
-judged_written vs os (W.Done n m) = ok (record { met = met_in vs m; operations = ops_in os n })
-judged_written vs os (W.Refused r) = refused r
+abbrev pub judged_written : List ℕ → List ℕ → Result (ℕ × Known) Refusal → Outcome Written
+judged_written vs os (Ok (n, m)) = ok (record { met = met_in vs m; operations = ops_in os n })
+judged_written vs os (Err r) = refused r
 
 -- the predicate's number of a head
-abbrev pub judged_predicate : Opened → Outcome ℕ
-judged_predicate (P.Predicate i) = ok i
-judged_predicate (P.Refused r) = refused r
+abbrev pub judged_predicate : Result ℕ Refusal → Outcome ℕ
+judged_predicate (Ok i) = ok i
+judged_predicate (Err r) = refused r
 
 -- it is a declared one of n
-abbrev pub PredicateWithin : ℕ → Opened → Type 0
-PredicateWithin n (P.Predicate i) = (0 < i) × (i ≤ n)
-PredicateWithin n (P.Refused r) = Unit {0}
+abbrev pub PredicateWithin : ℕ → Result ℕ Refusal → Type 0
+PredicateWithin n (Ok i) = (0 < i) × (i ≤ n)
+PredicateWithin n (Err r) = Unit {0}
 
 -- the promise of reading a head's predicate, n declared: the answer w
-pub record Opens (n : ℕ) (w : Outcome ℕ) (r : Opened) : Type 0 where
+pub record Opens (n : ℕ) (w : Outcome ℕ) (r : Result ℕ Refusal) : Type 0 where
   pub answer : judged_predicate r ≡ w
   pub within : PredicateWithin n r
 
 -- n arguments in vs, and the words of the line behind them
-abbrev pub judged_head : List ℕ → List ℕ → ℕ → Headed → Outcome Head
-judged_head line vs n (H.Arguments i) = ok (record { variables = keys_at vs 0 n; rest = events_of (drop i line) })
-judged_head line vs n (H.Refused r) = refused r
+abbrev pub judged_head : List ℕ → List ℕ → ℕ → Result ℕ Refusal → Outcome Head
+judged_head line vs n (Ok i) = ok (record { variables = keys_at vs 0 n; rest = events_of (drop i line) })
+judged_head line vs n (Err r) = refused r
 
 -- the place behind the head is one of the line
-abbrev pub HeadWithin : List ℕ → Headed → Type 0
-HeadWithin line (H.Arguments i) = i ≤ length line
-HeadWithin line (H.Refused r) = Unit {0}
+abbrev pub HeadWithin : List ℕ → Result ℕ Refusal → Type 0
+HeadWithin line (Ok i) = i ≤ length line
+HeadWithin line (Err r) = Unit {0}
 
 -- the promise of reading a head's arguments: the answer w
-pub record Heads (line : List ℕ) (n : ℕ) (w : Outcome Head) (r : Headed) (vs' : List ℕ) : Type 0 where
+pub record Heads (line : List ℕ) (n : ℕ) (w : Outcome Head) (r : Result ℕ Refusal) (vs' : List ℕ) : Type 0 where
   pub answer : judged_head line vs' n r ≡ w
   pub within : HeadWithin line r
 
 -- the operations lie within the words os
-abbrev pub ReadWithin : List ℕ → Read → Type 0
-ReadWithin os (W.Done n m) = n * 2 ≤ length os
-ReadWithin os (W.Refused r) = Unit {0}
+abbrev pub ReadWithin : List ℕ → Result (ℕ × Known) Refusal → Type 0
+ReadWithin os (Ok (n, m)) = n * 2 ≤ length os
+ReadWithin os (Err r) = Unit {0}
 
 -- the promise of reading a line's words: the answer w
-pub record Reads (w : Outcome Written) (r : Read) (vs' os' : List ℕ) : Type 0 where
+pub record Reads (w : Outcome Written) (r : Result (ℕ × Known) Refusal) (vs' os' : List ℕ) : Type 0 where
   pub answer : judged_written vs' os' r ≡ w
   pub within : ReadWithin os' r
 
@@ -180,21 +169,21 @@ pub record Fillable (l k t : ℕ) : Type 0 where
   pub zero : place_in (unpacked l) k ≡ 0
   pub term : t < term_base
 
-abbrev pub TermBelow : Resolved → Type 0
-TermBelow (R.Number t) = t < term_end
-TermBelow (R.Refused r) = Unit {0}
+abbrev pub TermBelow : Result ℕ Refusal → Type 0
+TermBelow (Ok t) = t < term_end
+TermBelow (Err r) = Unit {0}
 
 -- what a word adds: at most one operation
 pub record Advanced (p q : Progress) : Type 0 where
   pub going : Going q
   pub one : q.operations ≤ p.operations + 1
 
-abbrev pub AdvancedBy : Progress → Stepped → Type 0
-AdvancedBy p (S.Done q) = Advanced p q
-AdvancedBy p (S.Refused r) = Unit {0}
+abbrev pub AdvancedBy : Progress → Result Progress Refusal → Type 0
+AdvancedBy p (Ok q) = Advanced p q
+AdvancedBy p (Err r) = Unit {0}
 
 -- the promise of a function that resolves a term: the answer w
-pub record Resolves (w : Outcome ℕ) (r : Resolved) : Type 0 where
+pub record Resolves (w : Outcome ℕ) (r : Result ℕ Refusal) : Type 0 where
   pub answer : judged_number r ≡ w
   pub below : TermBelow r
 
@@ -213,6 +202,6 @@ pub record Goes (p : Progress) (w : Pass) (r : Progress) (os' : List ℕ) : Type
   pub pass : pass_of os' r ≡ w
   pub advanced : Advanced p r
 
-pub record Steps (p : Progress) (w : Outcome Pass) (r : Stepped) (os' : List ℕ) : Type 0 where
+pub record Steps (p : Progress) (w : Outcome Pass) (r : Result Progress Refusal) (os' : List ℕ) : Type 0 where
   pub answer : judged_pass os' r ≡ w
   pub advanced : AdvancedBy p r

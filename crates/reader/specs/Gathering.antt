@@ -6,24 +6,22 @@ use Rattle.words.specs.Words.{number_form}
 use Rattle.words.specs.Keys.{name_of}
 use Rattle.words.specs.declared.Key.{Key}
 use Rattle.names.specs.Keys.{keys_at}
-use Rattle.reader.specs.declared.Numbered.{Numbered}
-use Rattle.reader.specs.declared.Numbered.TheVariants as N
 use Rattle.reader.specs.declared.Pair.{Pair}
-use Rattle.reader.specs.declared.Gathered.{Gathered}
-use Rattle.reader.specs.declared.Gathered.TheVariants as G
 use Rattle.events.specs.declared.Event.{Event}
 use Rattle.reading.specs.Reading.{Met}
 use Rattle.reading.specs.Occurrences.{variable_keys, minimum_keys}
 use Rattle.reading.specs.Numbering.{takes, is_numbered, number_of, all_numbered}
 use Rattle.reader.specs.Callers.{Part}
+use Rattle.std.specs.Prelude.{Option}
+use Rattle.std.specs.Prelude.{Some, None}
 
 -- the N that the bytes write, or that they are no number
-abbrev pub whole_number : List ℕ → Numbered
-whole_number s = cond (takes (length s) (number_form s)) (N.Number (decimal s)) N.Other
+abbrev pub whole_number : List ℕ → Option ℕ
+whole_number s = cond (takes (length s) (number_form s)) (Some (decimal s)) None
 
 -- the N of a name, or that it is not written so
-abbrev pub numbered_as : List ℕ → Numbered
-numbered_as n = cond (is_numbered n) (N.Number (number_of n)) N.Other
+abbrev pub numbered_as : List ℕ → Option ℕ
+numbered_as n = cond (is_numbered n) (Some (number_of n)) None
 
 -- two variables with their N, by ascending N, and the greater N
 abbrev pub paired : Key → ℕ → Key → ℕ → Pair
@@ -63,10 +61,10 @@ pub record Insertable (vs : List ℕ) (count : ℕ) (k : Key) (n : ℕ) : Type 0
   pub room : count ≤ variable_count
   pub number : n ≡ number_of (name_of k)
 
-abbrev pub GathersAs : List Key → List Key → List ℕ → Gathered → Type 0
-GathersAs us ks vs (G.Count n) = (all_numbered ks ≡ true) × (keys_at vs 0 n ≡ gathered us ks) × Part vs n
-GathersAs us ks vs G.Other = all_numbered ks ≡ false
+abbrev pub GathersAs : List Key → List Key → List ℕ → Option ℕ → Type 0
+GathersAs us ks vs (Some n) = (all_numbered ks ≡ true) × (keys_at vs 0 n ≡ gathered us ks) × Part vs n
+GathersAs us ks vs None = all_numbered ks ≡ false
 
 -- the promise of gathering the variables ks behind us
-pub record Gathers (us ks : List Key) (r : Gathered) (vs' : List ℕ) : Type 0 where
+pub record Gathers (us ks : List Key) (r : Option ℕ) (vs' : List ℕ) : Type 0 where
   pub is : GathersAs us ks vs' r

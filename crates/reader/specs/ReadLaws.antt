@@ -14,10 +14,10 @@ use Rattle.reading.specs.Tree.{Reading, ops_of}
 use Rattle.reading.specs.GoodLaws.{reading-sound}
 use Rattle.reader.specs.declared.Scope.{Scope}
 use Rattle.reader.specs.declared.Known.{Known}
-use Rattle.reader.specs.declared.Read.TheVariants as W
 use Rattle.reader.specs.OperationWords.{ops_in}
 use Rattle.reader.specs.OperationLaws.{InRange, operations-range, leaf-range, label-range}
 use Rattle.reader.specs.Callers.{names_of, met_in, Tables, Reads}
+use Rattle.std.specs.Prelude.{Ok}
 
 pub tables-fit : (ns ar : List ℕ) (s : Scope) → Tables ns ar s → NamesFit (names_of ns ar s)
 tables-fit ns ar s t = record {
@@ -37,7 +37,7 @@ pub record Diagrammed (σ : Environment) (vs : Met) (d : T.Diagram) (n : ℕ) (o
   pub labels : (k : ℕ) → k < n → get_or os (k * 2) 0 ≡ 1 → get_or os (k * 2 + 1) 0 < leaf_mark
 
 module _ (σ : Environment) (f : NamesFit σ) (d : T.Diagram) (es : List Event) (e : es ≡ diagram_events d) (ks : Met) {vs os : List ℕ} where
-  pub read-diagram : {n : ℕ} {m : Known} → Reads (reading σ es ks) (W.Done n m) vs os → Diagrammed σ ks d n os
+  pub read-diagram : {n : ℕ} {m : Known} → Reads (reading σ es ks) (Ok (n, m)) vs os → Diagrammed σ ks d n os
   read-diagram {n} {m} g =
       let w : Written = record { met = met_in vs m; operations = ops_in os n } in
       let s = reading-sound σ f d ks w (ap (λ x. reading σ x ks) (sym e) ∙ sym g.answer) in

@@ -1,4 +1,5 @@
 // The words of a line with a diagram: names resolved, faults found word by word, and the operations that the diagram is built by.
+// Reading answers how many operations and how many variables a line's words come to, or the refusal.
 #![tactic(auto)]
 
 ghost use Rattle.std.specs.Prelude.{◌≡◌, [], ◌∷◌, ◌+◌, ◌*◌, ◌≤◌, ◌<◌, min, length, drop};
@@ -18,14 +19,14 @@ ghost use Rattle.words.specs.Keys.{bytes_within, name_of};
 ghost use Rattle.reading.specs.Occurrences.{minimum_of, variable_of, word_keys, keys_of};
 ghost use Rattle.reading.specs.Numbering.{number_of, reward_reading};
 ghost use Rattle.reader.specs.Gathering.{whole_number, numbered_as, paired, moved, kept_first, kept_met, Spelt, Insertable, Gathers};
-ghost use Rattle.reader.specs.Callers.{part_words, met_in, argument_count, names_of, placed, pass_of, judged_number, read_answer, refused_read, Reads, Opens};
+ghost use Rattle.reader.specs.Callers.{part_words, met_in, argument_count, names_of, placed, pass_of, judged_number, read_answer, Reads, Opens};
 ghost use Rattle.reader.specs.Callers.{Heads, Tables, Part, Variables, Readable, Room, Fillable, TermBelow, Resolves, Meets, MeetsWord, Goes, Steps};
 
 use events::Event;
 use label::{Label, Term, Test};
-use reading::{Argument, Binding, Kind, Opening};
+use reading::{Binding, Kind};
 use refusal::Refusal;
-use words::{Key, Took};
+use words::Key;
 
 // The first words of operations: a leaf, a label to ask, t = t to ask, a row step.
 pub const LEAF: u64 = 0;
@@ -75,60 +76,12 @@ struct Progress {
     operations: usize,
 }
 
-// A term's number, or the refusal.
-#[derive(Clone, Copy)]
-enum Resolved {
-    Number(u64),
-    Refused(Refusal),
-}
-
-#[derive(Clone, Copy)]
-enum Stepped {
-    Done(Progress),
-    Refused(Refusal),
-}
-
-// How many operations and how many variables a line's words come to, or the refusal.
-#[derive(Clone, Copy)]
-pub enum Read {
-    Done(usize, Known),
-    Refused(Refusal),
-}
-
-// The N of a variable's name that is written vN, or that it is another name.
-#[derive(Clone, Copy)]
-enum Numbered {
-    Number(u64),
-    Other,
-}
-
 // Two variables by ascending N, and the greater N.
 #[derive(Clone, Copy)]
 struct Pair {
     low: Key,
     high: Key,
     order: u64,
-}
-
-// How many variables are gathered, or that one is not written vN.
-#[derive(Clone, Copy)]
-enum Gathered {
-    Count(usize),
-    Other,
-}
-
-// The number of a head's predicate, or the refusal.
-#[derive(Clone, Copy)]
-pub enum Opened {
-    Predicate(usize),
-    Refused(Refusal),
-}
-
-// The place behind a head whose arguments are read, or the refusal.
-#[derive(Clone, Copy)]
-pub enum Headed {
-    Arguments(usize),
-    Refused(Refusal),
 }
 
 // One operation more.
@@ -139,9 +92,10 @@ fn add(operations: &mut [u64], pass: Progress, kind: u64, value: u64) -> Progres
     let n = pass.operations;
     operations[n * 2] = kind;
     operations[n * 2 + 1] = value;
-    let mut next = pass;
-    next.operations = n + 1;
-    next
+    Progress {
+        operations: n + 1,
+        ..pass
+    }
 }
 
 // Asks the atom once none of its terms is due.
@@ -152,9 +106,7 @@ fn ask(operations: &mut [u64], pass: Progress) -> Progress
     if pass.due != 0 {
         return pass;
     }
-    let label = pass.label;
-    let test = label.unpack().test();
-    match test {
+    match pass.label.unpack().test() {
         Test::Always => add(operations, pass, TRUTH, 0),
         Test::Is(label) => add(operations, pass, ASK, label.packed),
     }
@@ -172,8 +124,8 @@ fn begin(operations: &mut [u64], pass: Progress, predicate: u64, due: usize) -> 
             packed: predicate * Label::PREDICATE_WEIGHT,
         },
         filled: 0,
-        due: due,
-        operations: pass.operations,
+        due,
+        ..pass
     };
     ask(operations, next)
 }
@@ -188,45 +140,47 @@ fn fill(l: Label, k: u64, t: u64) -> Label
 }
 
 // The term t fills the next place of the atom.
-fn give(operations: &mut [u64], pass: Progress, t: u64) -> Stepped
+fn give(operations: &mut [u64], pass: Progress, t: u64) -> Result<Progress, Refusal>
     requires room { Room operations.old pass }
     requires t_lt_term_end { t < term_end }
     ensures { Steps pass (term_word (pass_of operations.old pass) (ok t)) result operations.new }
 {
     if pass.due == 0 {
-        return Stepped::Refused(Refusal::Form);
+        return Err(Refusal::Form);
     }
     let k = pass.filled;
     let next = Progress {
         label: fill(pass.label, k as u64, t),
         filled: k + 1,
         due: pass.due - 1,
-        operations: pass.operations,
+        ..pass
     };
-    Stepped::Done(ask(operations, next))
+    Ok(ask(operations, next))
 }
 
 // The word of a term, resolved.
-fn read_term(operations: &mut [u64], pass: Progress, term: Resolved) -> Stepped
+fn read_term(
+    operations: &mut [u64],
+    pass: Progress,
+    term: Result<u64, Refusal>,
+) -> Result<Progress, Refusal>
     requires room { Room operations.old pass }
     requires term_below { TermBelow term }
     ensures { Steps pass (term_word (pass_of operations.old pass) (judged_number term)) result operations.new }
 {
-    match term {
-        Resolved::Number(t) => give(operations, pass, t),
-        Resolved::Refused(refusal) => Stepped::Refused(refusal),
-    }
+    let t = term?;
+    give(operations, pass, t)
 }
 
 // A leaf's number.
-fn read_number(operations: &mut [u64], pass: Progress, value: u64) -> Stepped
+fn read_number(operations: &mut [u64], pass: Progress, value: u64) -> Result<Progress, Refusal>
     requires { Room operations.old pass }
     ensures { Steps pass (number_word (pass_of operations.old pass) value) result operations.new }
 {
     if value > diagram::VALUE {
-        return Stepped::Refused(Refusal::Range);
+        return Err(Refusal::Range);
     }
-    Stepped::Done(add(operations, pass, LEAF, value))
+    Ok(add(operations, pass, LEAF, value))
 }
 
 // The name of an atom with its count of terms.
@@ -238,7 +192,7 @@ fn read_atom(
     pass: Progress,
     key: Key,
     count: usize,
-) -> Stepped
+) -> Result<Progress, Refusal>
     requires tables { Tables names.now arities.now scope }
     requires room { Room operations.old pass }
     ensures { Steps pass (atom_word (names_of names.now arities.now scope) (pass_of operations.old pass) key count) result operations.new }
@@ -246,115 +200,117 @@ fn read_atom(
     let n = scope.predicates;
     let i = names::find(names, names::DECLARED, n, key);
     if n <= i {
-        return Stepped::Refused(Refusal::Name);
+        return Err(Refusal::Name);
     }
     let p = i + 1;
     let arity = arities[p] as usize;
     if count != arity {
-        return Stepped::Refused(Refusal::Arity);
+        return Err(Refusal::Arity);
     }
-    Stepped::Done(begin(operations, pass, p as u64, count))
+    Ok(begin(operations, pass, p as u64, count))
 }
 
 // A constant's number.
-fn constant_number(names: &[u64], n: usize, key: Key) -> Resolved
+fn constant_number(names: &[u64], n: usize, key: Key) -> Result<u64, Refusal>
     requires n_in_bounds { n * 2 ≤ length names.now }
     requires n_le_constant_count { n ≤ constant_count }
     ensures { Resolves (constant_number (keys_at names.now constants_at n) key) result }
 {
     let i = names::find(names, names::CONSTANTS, n, key);
     if n <= i {
-        return Resolved::Refused(Refusal::Name);
+        return Err(Refusal::Name);
     }
-    let t = Term::constant(i as u64);
-    Resolved::Number(t.number)
+    Ok(Term::constant(i as u64).number)
 }
 
 // A parameter's number.
-fn parameter_number(names: &[u64], n: usize, key: Key) -> Resolved
+fn parameter_number(names: &[u64], n: usize, key: Key) -> Result<u64, Refusal>
     requires n_in_bounds { parameters_at + n * 2 ≤ length names.now }
     requires n_le_parameter_count { n ≤ parameter_count }
     ensures { Resolves (parameter_number (keys_at names.now parameters_at n) key) result }
 {
     let i = names::find(names, names::PARAMETERS, n, key);
     if n <= i {
-        return Resolved::Refused(Refusal::Unbound);
+        return Err(Refusal::Unbound);
     }
-    let t = Term::parameter(i as u64);
-    Resolved::Number(t.number)
+    Ok(Term::parameter(i as u64).number)
 }
 
 // The place i of a variable; past the last one that has a number, the place of that one.
 fn numbered_place(i: usize) -> u64
     ensures { result ≡ min i last_variable }
 {
-    if LAST_VARIABLE <= i {
-        return LAST_VARIABLE as u64;
-    }
-    i as u64
+    i.min(LAST_VARIABLE) as u64
 }
 
 // The number of variable i.
 fn variable_at(i: usize) -> u64
     ensures { result ≡ variable_term (min i last_variable) }
 {
-    let t = Term::variable(numbered_place(i));
-    t.number
+    Term::variable(numbered_place(i)).number
 }
 
 // The number of minimum variable i.
 fn minimum_at(i: usize) -> u64
     ensures { result ≡ minimum_term (min i last_variable) }
 {
-    let t = Term::minimum(numbered_place(i));
-    t.number
+    Term::minimum(numbered_place(i)).number
 }
 
 // The number of a variable that is in the table.
-fn bound_number(variables: &[u64], count: usize, key: Key) -> Resolved
+fn bound_number(variables: &[u64], count: usize, key: Key) -> Result<u64, Refusal>
     requires { count * 2 ≤ length variables.now }
     ensures { Resolves (variable_number Only (keys_at variables.now 0 count) key) result }
 {
     let i = names::find(variables, 0, count, key);
     if count <= i {
-        return Resolved::Refused(Refusal::Unbound);
+        return Err(Refusal::Unbound);
     }
-    Resolved::Number(variable_at(i))
+    Ok(variable_at(i))
 }
 
 // The number of any variable.
-fn any_number(variables: &[u64], count: usize, key: Key) -> Resolved
+fn any_number(variables: &[u64], count: usize, key: Key) -> Result<u64, Refusal>
     requires { count * 2 ≤ length variables.now }
     ensures { Resolves (variable_number Any (keys_at variables.now 0 count) key) result }
 {
     let i = names::find(variables, 0, count, key);
-    Resolved::Number(variable_at(i))
+    Ok(variable_at(i))
 }
 
 // A variable's number, the variables met so far in the table.
-fn variable_number(variables: &[u64], count: usize, binding: Binding, key: Key) -> Resolved
+fn variable_number(
+    variables: &[u64],
+    count: usize,
+    binding: Binding,
+    key: Key,
+) -> Result<u64, Refusal>
     requires { count * 2 ≤ length variables.now }
     ensures { Resolves (variable_number binding (keys_at variables.now 0 count) key) result }
 {
     match binding {
         Binding::Any => any_number(variables, count, key),
-        Binding::None => Resolved::Refused(Refusal::Unbound),
+        Binding::None => Err(Refusal::Unbound),
         Binding::Only => bound_number(variables, count, key),
     }
 }
 
 // A minimum variable's number.
-fn minimum_number(variables: &[u64], count: usize, binding: Binding, key: Key) -> Resolved
+fn minimum_number(
+    variables: &[u64],
+    count: usize,
+    binding: Binding,
+    key: Key,
+) -> Result<u64, Refusal>
     requires { part_words + count * 2 ≤ length variables.now }
     ensures { Resolves (minimum_number binding (keys_at variables.now part_words count) key) result }
 {
     match binding {
         Binding::Any => {
             let i = names::find(variables, PART_WORDS, count, key);
-            Resolved::Number(minimum_at(i))
+            Ok(minimum_at(i))
         }
-        Binding::None => Resolved::Refused(Refusal::Unbound),
-        Binding::Only => Resolved::Refused(Refusal::Unbound),
+        Binding::None | Binding::Only => Err(Refusal::Unbound),
     }
 }
 
@@ -380,8 +336,7 @@ fn meet(variables: &mut [u64], count: usize, binding: Binding, key: Key) -> usiz
 {
     match binding {
         Binding::Any => join(variables, count, key),
-        Binding::None => count,
-        Binding::Only => count,
+        Binding::None | Binding::Only => count,
     }
 }
 
@@ -393,7 +348,7 @@ fn meet_variable(variables: &mut [u64], known: Known, binding: Binding, key: Key
     let count = meet(&mut variables[..PART_WORDS], known.variables, binding, key);
     Known {
         variables: count,
-        minimums: known.minimums,
+        ..known
     }
 }
 
@@ -404,8 +359,8 @@ fn meet_minimum(variables: &mut [u64], known: Known, binding: Binding, key: Key)
 {
     let count = meet(&mut variables[PART_WORDS..], known.minimums, binding, key);
     Known {
-        variables: known.variables,
         minimums: count,
+        ..known
     }
 }
 
@@ -431,7 +386,7 @@ fn read_word(
     known: Known,
     pass: Progress,
     event: Event,
-) -> Stepped
+) -> Result<Progress, Refusal>
     requires tables { Tables names.now arities.now scope }
     requires variables { Variables variables.now known }
     requires room { Room operations.old pass }
@@ -443,61 +398,45 @@ fn read_word(
             pass,
             constant_number(names, scope.constants, key),
         ),
-        Event::Variable(key) => {
-            let binding = scope.binding;
-            read_term(
-                operations,
-                pass,
-                variable_number(variables, known.variables, binding, key),
-            )
-        }
+        Event::Variable(key) => read_term(
+            operations,
+            pass,
+            variable_number(variables, known.variables, scope.binding, key),
+        ),
         Event::Parameter(key) => read_term(
             operations,
             pass,
             parameter_number(names, scope.parameters, key),
         ),
-        Event::Minimum(key) => {
-            let binding = scope.binding;
-            read_term(
-                operations,
-                pass,
-                minimum_number(variables, known.minimums, binding, key),
-            )
-        }
+        Event::Minimum(key) => read_term(
+            operations,
+            pass,
+            minimum_number(variables, known.minimums, scope.binding, key),
+        ),
         Event::Number(value) => read_number(operations, pass, value),
-        Event::Equal => Stepped::Done(begin(
+        Event::Equal => Ok(begin(
             operations,
             pass,
             Label::EQUALITY,
             Label::EQUALITY_ARITY as usize,
         )),
         Event::Holds(key, terms) => read_atom(names, arities, operations, scope, pass, key, terms),
-        Event::Step => Stepped::Done(add(operations, pass, STEP, 0)),
-        Event::End => Stepped::Done(pass),
+        Event::Step => Ok(add(operations, pass, STEP, 0)),
+        Event::End => Ok(pass),
     }
 }
 
 // The answer after all words: each kind of variables has a limit of its own.
-fn finish(known: Known, operations: usize) -> Read
+fn finish(known: Known, operations: usize) -> Result<(usize, Known), Refusal>
     ensures { result ≡ read_answer known operations }
 {
     if VARIABLES < known.variables {
-        return Read::Refused(Refusal::Variables);
+        return Err(Refusal::Variables);
     }
     if VARIABLES < known.minimums {
-        return Read::Refused(Refusal::Variables);
+        return Err(Refusal::Variables);
     }
-    Read::Done(operations, known)
-}
-
-// A refusal handed up.
-fn refused(stepped: Stepped) -> Read
-    ensures { result ≡ refused_read stepped }
-{
-    match stepped {
-        Stepped::Done(_) => Read::Refused(Refusal::Form),
-        Stepped::Refused(refusal) => Read::Refused(refusal),
-    }
+    Ok((operations, known))
 }
 
 // The words of a line from the place `at` on, so many variables in the table before them: the operations of its diagram and the
@@ -511,7 +450,7 @@ fn read_all(
     operations: &mut [u64],
     scope: Scope,
     first: Known,
-) -> Read
+) -> Result<(usize, Known), Refusal>
     requires { Readable line.now at names.now arities.now variables.old operations.old scope first }
     ensures { Reads (reading (names_of names.now arities.now scope) (events_of (drop at line.now)) (met_in variables.old first)) result variables.new operations.new }
 {
@@ -529,15 +468,10 @@ fn read_all(
         if events::is_end(event) {
             return finish(known, pass.operations);
         }
-        let binding = scope.binding;
-        known = meet_word(variables, known, binding, event);
-        let stepped = read_word(
+        known = meet_word(variables, known, scope.binding, event);
+        pass = read_word(
             names, arities, variables, operations, scope, known, pass, event,
-        );
-        let Stepped::Done(then) = stepped else {
-            return refused(stepped);
-        };
-        pass = then;
+        )?;
         place = next.place;
     }
     finish(known, pass.operations)
@@ -553,7 +487,7 @@ pub fn read_words(
     operations: &mut [u64],
     scope: Scope,
     known: usize,
-) -> Read
+) -> Result<(usize, Known), Refusal>
     requires { Readable line.now at names.now arities.now variables.old operations.old scope (argument_count known) }
     ensures { Reads (reading (names_of names.now arities.now scope) (events_of (drop at line.now)) (arguments (keys_at variables.old 0 known))) result variables.new operations.new }
 {
@@ -566,99 +500,80 @@ pub fn read_words(
     )
 }
 
-fn opening_of(event: Event) -> Opening
+fn opening_of(event: Event) -> Option<(Key, usize)>
     ensures { result ≡ opening_of event }
 {
     match event {
-        Event::Name(_) => Opening::Other,
-        Event::Variable(_) => Opening::Other,
-        Event::Parameter(_) => Opening::Other,
-        Event::Minimum(_) => Opening::Other,
-        Event::Number(_) => Opening::Other,
-        Event::Equal => Opening::Other,
-        Event::Holds(key, count) => Opening::Atom(key, count),
-        Event::Step => Opening::Other,
-        Event::End => Opening::Other,
+        Event::Holds(key, count) => Some((key, count)),
+        _ => None,
     }
 }
 
-fn argument_of(event: Event) -> Argument
+fn argument_of(event: Event) -> Option<Key>
     ensures { result ≡ argument_of event }
 {
     match event {
-        Event::Name(_) => Argument::Other,
-        Event::Variable(key) => Argument::Named(key),
-        Event::Parameter(_) => Argument::Other,
-        Event::Minimum(_) => Argument::Other,
-        Event::Number(_) => Argument::Other,
-        Event::Equal => Argument::Other,
-        Event::Holds(_, _) => Argument::Other,
-        Event::Step => Argument::Other,
-        Event::End => Argument::Other,
+        Event::Variable(key) => Some(key),
+        _ => None,
     }
 }
 
 // The number of the predicate that the head at the place `at` names, n predicates declared.
-pub fn head_predicate(line: &[u8], at: usize, names: &[u64], n: usize) -> Opened
+pub fn head_predicate(line: &[u8], at: usize, names: &[u64], n: usize) -> Result<usize, Refusal>
     requires at_in_bounds { at ≤ length line.now }
     requires n_in_bounds { declared_at + n * 2 ≤ length names.now }
     ensures { Opens n (head_number (keys_at names.now declared_at n) (events_of (drop at line.now))) result }
 {
     let next = events::next_event(line, at);
-    let event = next.event;
-    let first = opening_of(event);
-    let Opening::Atom(key, _) = first else {
-        return Opened::Refused(Refusal::Form);
-    };
+    let (key, _) = opening_of(next.event).ok_or(Refusal::Form)?;
     let i = names::find(names, names::DECLARED, n, key);
     if n <= i {
-        return Opened::Refused(Refusal::Name);
+        return Err(Refusal::Name);
     }
-    Opened::Predicate(i + 1)
+    Ok(i + 1)
 }
 
 // The arguments from the place `at` on, `arity` of them, into the table of variables.
-fn read_variables(line: &[u8], at: usize, variables: &mut [u64], arity: usize) -> Headed
+fn read_variables(
+    line: &[u8],
+    at: usize,
+    variables: &mut [u64],
+    arity: usize,
+) -> Result<usize, Refusal>
     requires at_in_bounds { at ≤ length line.now }
     requires arity_in_bounds { arity * 2 ≤ length variables.old }
     ensures { Heads line.now arity (arguments_from arity [] (events_of (drop at line.now))) result variables.new }
 {
     let mut place = at;
-    let mut n = 0;
-    while n < arity {
+    for n in 0..arity {
         let next = events::next_event(line, place);
-        let event = next.event;
-        let word = argument_of(event);
-        let Argument::Named(key) = word else {
-            return Headed::Refused(Refusal::Form);
-        };
+        let key = argument_of(next.event).ok_or(Refusal::Form)?;
         if names::find(variables, 0, n, key) < n {
-            return Headed::Refused(Refusal::Name);
+            return Err(Refusal::Name);
         }
         names::put(variables, n * 2, key);
-        n += 1;
         place = next.place;
     }
-    Headed::Arguments(place)
+    Ok(place)
 }
 
 // The arguments of the head at the place `at`, whose predicate has the arity.
-pub fn head_arguments(line: &[u8], at: usize, variables: &mut [u64], arity: usize) -> Headed
+pub fn head_arguments(
+    line: &[u8],
+    at: usize,
+    variables: &mut [u64],
+    arity: usize,
+) -> Result<usize, Refusal>
     requires at_in_bounds { at ≤ length line.now }
     requires arity_in_bounds { arity * 2 ≤ length variables.old }
     ensures { Heads line.now arity (head_arguments arity (events_of (drop at line.now))) result variables.new }
 {
     let next = events::next_event(line, at);
-    let event = next.event;
-    let first = opening_of(event);
-    let Opening::Atom(_, count) = first else {
-        return Headed::Refused(Refusal::Form);
-    };
+    let (_, count) = opening_of(next.event).ok_or(Refusal::Form)?;
     if count != arity {
-        return Headed::Refused(Refusal::Arity);
+        return Err(Refusal::Arity);
     }
-    let place = next.place;
-    read_variables(line, place, variables, arity)
+    read_variables(line, next.place, variables, arity)
 }
 
 // Writes the bytes of m at the place `at`, the first byte lowest and none of them 0, at most `left`: the place behind them.
@@ -666,46 +581,42 @@ fn spell(out: &mut [u8], at: usize, m: u64, left: usize) -> usize
     requires { at + left ≤ length out.old }
     ensures { Spelt out.old at (bytes_within left m) result out.new }
 {
-    let mut i = 0;
     let mut rest = m;
-    while i < left {
+    for i in 0..left {
         if rest == 0 {
             return at + i;
         }
         out[at + i] = (rest % 256) as u8;
         rest = rest / 256;
-        i += 1;
     }
-    at + i
+    at + left
 }
 
 // The number that all of the bytes write.
-fn whole_number(s: &[u8]) -> Numbered
+fn whole_number(s: &[u8]) -> Option<u64>
     requires { length s.now ≤ 14 }
     ensures { result ≡ whole_number s.now }
 {
-    let Took::Bytes(n) = words::read_number(s) else {
-        return Numbered::Other;
-    };
+    let n = words::read_number(s)?;
     if n != s.len() {
-        return Numbered::Other;
+        return None;
     }
-    Numbered::Number(words::value(s))
+    Some(words::value(s))
 }
 
 // The N of a name.
-fn name_number(name: &[u8]) -> Numbered
+fn name_number(name: &[u8]) -> Option<u64>
     requires { length name.now ≤ 15 }
     ensures { result ≡ numbered_as name.now }
 {
     if words::byte_at(name, 0) != LETTER_V {
-        return Numbered::Other;
+        return None;
     }
     whole_number(words::rest(name, 1))
 }
 
 // The N of a key's name.
-fn number_of(key: Key) -> Numbered
+fn number_of(key: Key) -> Option<u64>
     ensures { result ≡ numbered_as (name_of key) }
 {
     let mut bytes = [0u8; 15];
@@ -718,10 +629,7 @@ fn number_of(key: Key) -> Numbered
 fn order_of(key: Key) -> u64
     ensures { result ≡ number_of (name_of key) }
 {
-    match number_of(key) {
-        Numbered::Number(n) => n,
-        Numbered::Other => 0,
-    }
+    number_of(key).unwrap_or(0)
 }
 
 // Two variables with their N, by ascending N.
@@ -747,70 +655,58 @@ fn insert(variables: &mut [u64], count: usize, key: Key, number: u64) -> usize
     requires { Insertable variables.old count key number }
     ensures { Meets (moved key (keys_at variables.old 0 count)) result variables.new }
 {
-    let mut i = 0;
     let mut carried = key;
     let mut n = number;
-    while i < count {
+    for i in 0..count {
         let there = names::key_at(variables, 0, i);
         let m = order_of(there);
         if n == m {
             return count;
         }
         let pair = ordered(carried, n, there, m);
-        let low = pair.low;
-        names::put(variables, i * 2, low);
+        names::put(variables, i * 2, pair.low);
         carried = pair.high;
         n = pair.order;
-        i += 1;
     }
     names::put(variables, count * 2, carried);
     count + 1
 }
 
 // A variable joins its part of the table by ascending N, if it is written so and there is room.
-fn gather(variables: &mut [u64], count: usize, key: Key) -> Gathered
+fn gather(variables: &mut [u64], count: usize, key: Key) -> Option<usize>
     requires { Part variables.old count }
     ensures { Gathers (keys_at variables.old 0 count) (key ∷ []) result variables.new }
 {
-    let Numbered::Number(n) = number_of(key) else {
-        return Gathered::Other;
-    };
+    let n = number_of(key)?;
     if VARIABLES < count {
-        return Gathered::Count(count);
+        return Some(count);
     }
-    Gathered::Count(insert(variables, count, key, n))
+    Some(insert(variables, count, key, n))
 }
 
 // The variable of a word, if it is one.
-fn gather_word(variables: &mut [u64], count: usize, word: Argument) -> Gathered
+fn gather_word(variables: &mut [u64], count: usize, word: Option<Key>) -> Option<usize>
     requires { Part variables.old count }
     ensures { Gathers (keys_at variables.old 0 count) (word_keys word) result variables.new }
 {
     match word {
-        Argument::Named(key) => gather(variables, count, key),
-        Argument::Other => Gathered::Count(count),
+        Some(key) => gather(variables, count, key),
+        None => Some(count),
     }
 }
 
 // %name
-fn minimum_of(event: Event) -> Argument
+fn minimum_of(event: Event) -> Option<Key>
     ensures { result ≡ minimum_of event }
 {
     match event {
-        Event::Name(_) => Argument::Other,
-        Event::Variable(_) => Argument::Other,
-        Event::Parameter(_) => Argument::Other,
-        Event::Minimum(key) => Argument::Named(key),
-        Event::Number(_) => Argument::Other,
-        Event::Equal => Argument::Other,
-        Event::Holds(_, _) => Argument::Other,
-        Event::Step => Argument::Other,
-        Event::End => Argument::Other,
+        Event::Minimum(key) => Some(key),
+        _ => None,
     }
 }
 
 // A variable of the kind.
-fn variable_of(kind: Kind, event: Event) -> Argument
+fn variable_of(kind: Kind, event: Event) -> Option<Key>
     ensures { result ≡ variable_of kind event }
 {
     match kind {
@@ -834,9 +730,7 @@ fn number_variables(line: &[u8], at: usize, variables: &mut [u64], kind: Kind) -
         if events::is_end(event) {
             return count;
         }
-        let word = variable_of(kind, event);
-        let gathered = gather_word(variables, count, word);
-        let Gathered::Count(n) = gathered else {
+        let Some(n) = gather_word(variables, count, variable_of(kind, event)) else {
             return 0;
         };
         count = n;
@@ -855,7 +749,7 @@ fn number_kinds(line: &[u8], at: usize, variables: &mut [u64]) -> Known
     let minimums = number_variables(line, at, &mut variables[PART_WORDS..], Kind::Minimum);
     Known {
         variables: maximums,
-        minimums: minimums,
+        minimums,
     }
 }
 
@@ -868,7 +762,7 @@ pub fn read_reward(
     variables: &mut [u64],
     operations: &mut [u64],
     scope: Scope,
-) -> Read
+) -> Result<(usize, Known), Refusal>
     requires readable { Readable line.now at names.now arities.now variables.old operations.old scope (argument_count 0) }
     requires binding_value { scope.binding ≡ Any }
     ensures { Reads (reward_reading (names_of names.now arities.now scope) (events_of (drop at line.now))) result variables.new operations.new }

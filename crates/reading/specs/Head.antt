@@ -8,39 +8,37 @@ use Rattle.words.specs.declared.Key.{Key}
 use Rattle.names.specs.Keys.{place_of, is_among}
 use Rattle.events.specs.declared.Event.{Event}
 use Rattle.events.specs.declared.Event.TheVariants as E
-use Rattle.reading.specs.declared.Opening.{Opening}
-use Rattle.reading.specs.declared.Opening.TheVariants as O
-use Rattle.reading.specs.declared.Argument.{Argument}
-use Rattle.reading.specs.declared.Argument.TheVariants as A
+use Rattle.std.specs.Prelude.{Option}
+use Rattle.std.specs.Prelude.{Some, None}
 
 -- an atom's name with its count of terms, or another word
-abbrev pub opening_of : Event → Opening
-opening_of (E.Name k) = O.Other
-opening_of (E.Variable k) = O.Other
-opening_of (E.Parameter k) = O.Other
-opening_of (E.Minimum k) = O.Other
-opening_of (E.Number v) = O.Other
-opening_of E.Equal = O.Other
-opening_of (E.Holds k n) = O.Atom k n
-opening_of E.Step = O.Other
-opening_of E.End = O.Other
+abbrev pub opening_of : Event → Option (Key × ℕ)
+opening_of (E.Name k) = None
+opening_of (E.Variable k) = None
+opening_of (E.Parameter k) = None
+opening_of (E.Minimum k) = None
+opening_of (E.Number v) = None
+opening_of E.Equal = None
+opening_of (E.Holds k n) = Some (k, n)
+opening_of E.Step = None
+opening_of E.End = None
 
 -- ?name, or another word
-abbrev pub argument_of : Event → Argument
-argument_of (E.Name k) = A.Other
-argument_of (E.Variable k) = A.Named k
-argument_of (E.Parameter k) = A.Other
-argument_of (E.Minimum k) = A.Other
-argument_of (E.Number v) = A.Other
-argument_of E.Equal = A.Other
-argument_of (E.Holds k n) = A.Other
-argument_of E.Step = A.Other
-argument_of E.End = A.Other
+abbrev pub argument_of : Event → Option Key
+argument_of (E.Name k) = None
+argument_of (E.Variable k) = Some k
+argument_of (E.Parameter k) = None
+argument_of (E.Minimum k) = None
+argument_of (E.Number v) = None
+argument_of E.Equal = None
+argument_of (E.Holds k n) = None
+argument_of E.Step = None
+argument_of E.End = None
 
 -- the predicate's number, the declared predicates ks numbered from 1, or 2
-unfoldable pub opened_number : List Key → Opening → Outcome ℕ
-opened_number ks (O.Atom k n) = cond (is_among k ks) (ok (place_of k ks + 1)) (refused Name)
-opened_number ks O.Other = refused Form
+unfoldable pub opened_number : List Key → Option (Key × ℕ) → Outcome ℕ
+opened_number ks (Some (k, n)) = cond (is_among k ks) (ok (place_of k ks + 1)) (refused Name)
+opened_number ks None = refused Form
 
 unfoldable pub head_number : List Key → List Event → Outcome ℕ
 head_number ks [] = refused Form
@@ -51,9 +49,9 @@ pub record Head : Type 0 where
   pub variables : List Key
   pub rest : List Event
 
-abbrev pub pick_argument : Argument → (Key → Outcome Head) → Outcome Head
-pick_argument (A.Named k) f = f k
-pick_argument A.Other f = refused Form
+abbrev pub pick_argument : Option Key → (Key → Outcome Head) → Outcome Head
+pick_argument (Some k) f = f k
+pick_argument None f = refused Form
 
 -- n arguments more, the keys vs before them: one that was there is 2
 unfoldable pub arguments_from : ℕ → List Key → List Event → Outcome Head
@@ -63,9 +61,9 @@ arguments_from (suc n) vs (e ∷ es) =
     pick_argument (argument_of e) (λ k. cond (is_among k vs) (refused Name) (arguments_from n (vs ++ (k ∷ [])) es))
 
 -- the head of a predicate of the arity n: another count is 3
-abbrev pub opened_arguments : ℕ → Opening → List Event → Outcome Head
-opened_arguments n (O.Atom k m) es = cond (eqb m n) (arguments_from n [] es) (refused Arity)
-opened_arguments n O.Other es = refused Form
+abbrev pub opened_arguments : ℕ → Option (Key × ℕ) → List Event → Outcome Head
+opened_arguments n (Some (k, m)) es = cond (eqb m n) (arguments_from n [] es) (refused Arity)
+opened_arguments n None es = refused Form
 
 unfoldable pub head_arguments : ℕ → List Event → Outcome Head
 head_arguments n [] = refused Form

@@ -27,8 +27,8 @@
 --   reward_reading == the words of a reward
 --
 -- Definitions: the head of (becomes (p ?a ..) DIAGRAM)
---   Opening, opening_of, opened_number, head_number == its predicate, or 2
---   Argument, argument_of, pick_argument, Head, arguments_from, opened_arguments, head_arguments == its arguments: 3 for another count, 2 for a second
+--   opening_of, opened_number, head_number == its predicate, or 2
+--   argument_of, pick_argument, Head, arguments_from, opened_arguments, head_arguments == its arguments: 3 for another count, 2 for a second
 --   argument_keys, head_keys == the same on the line's tree: the keys of the arguments
 --
 -- Definitions: the same on trees

@@ -6,20 +6,19 @@ use Rattle.words.specs.Bytes.{decimal}
 use Rattle.words.specs.Words.{number_form}
 use Rattle.words.specs.Keys.{name_of}
 use Rattle.words.specs.declared.Key.{Key}
-use Rattle.words.specs.declared.Took.{Took}
-use Rattle.words.specs.declared.Took.TheVariants.{Bytes, Refused}
 use Rattle.events.specs.declared.Event.{Event}
 use Rattle.reading.specs.Reading.{Environment, Met, Written, reading}
 use Rattle.reading.specs.Occurrences.{variable_keys, minimum_keys}
+use Rattle.std.specs.Prelude.{None, Option, Some}
 
 -- the byte v
 abbrev pub letter_v : ℕ
 letter_v = 118
 
 -- n bytes are taken
-abbrev pub takes : ℕ → Took → Bool
-takes n (Bytes m) = eqb m n
-takes n Refused = false
+abbrev pub takes : ℕ → Option ℕ → Bool
+takes n (Some m) = eqb m n
+takes n None = false
 
 -- 'written in that way, N without leading zeros': v and a whole number, nothing else
 unfoldable pub is_numbered : List ℕ → Bool

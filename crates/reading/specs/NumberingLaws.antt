@@ -14,31 +14,30 @@ use Rattle.label.specs.Limits.{variable_count, minimum_count, equality, equality
 use Rattle.label.specs.Labels.{atom_from, test_of}
 use Rattle.diagram.specs.Sizes.{highest_value}
 use Rattle.words.specs.declared.Key.{Key}
-use Rattle.words.specs.declared.Took.{Took}
-use Rattle.words.specs.declared.Took.TheVariants.{Bytes, Refused}
 use Rattle.words.specs.Words.{IsNumber, number_form}
 use Rattle.words.specs.WordLaws.{number-sound}
 use Rattle.names.specs.Keys.{place_of, is_among}
 use Rattle.events.specs.declared.Event.{Event}
 use Rattle.events.specs.declared.Event.TheVariants as E
 use Rattle.reading.specs.declared.Binding.{Binding}
-use Rattle.reading.specs.declared.Binding.TheVariants.{Any, None, Only}
+use Rattle.reading.specs.declared.Binding.TheVariants.{Any, None as NoName, Only}
 use Rattle.reading.specs.Operations.Op.{ask}
 use Rattle.reading.specs.Reading.{Environment, met, Met, met_at, Pass, more, asked, beginning, begun, filling, term_word}
 use Rattle.reading.specs.Reading.{number_word, atom_word, constant_number, parameter_number, variable_number, minimum_number, word, State, with-pass, read_words, is_within, finished, begin, reading}
 use Rattle.reading.specs.Numbering.{letter_v, takes, is_numbered}
 use Rattle.reading.specs.OutcomeLaws.{Match}
+use Rattle.std.specs.Prelude.{None, Option, Some}
 
 -- ===== Names with their N =====
 
 number_is : (s : List ℕ) → takes (length s) (number_form s) ≡ true → IsNumber s
 number_is s = go (number_form s) refl
   where
-    go : (t : Took) → number_form s ≡ t → takes (length s) t ≡ true → IsNumber s
-    go (Bytes n) q f =
+    go : (t : Option ℕ) → number_form s ≡ t → takes (length s) t ≡ true → IsNumber s
+    go (Some n) q f =
         let z : n ≡ length s = eqb-true n (length s) f in
         subst (λ (x : List ℕ). IsNumber x) (ap (λ (m : ℕ). take m s) z ∙ take-length s) (number-sound s q)
-    go Refused q f = clash f refl
+    go None q f = clash f refl
 
 -- v and a whole number without leading zeros, nothing else
 pub numbered-number : (n : List ℕ) → is_numbered n ≡ true → (get_or n 0 0 ≡ letter_v) × IsNumber (drop 1 n)
@@ -98,7 +97,7 @@ met-grows Any vs k = go (is_among k vs) (leb (length vs) variable_count)
     go true y = omega arith
     go false true = omega (arith, length-append vs (k ∷ []))
     go false false = omega arith
-met-grows None vs k = omega arith
+met-grows NoName vs k = omega arith
 met-grows Only vs k = omega arith
 
 over-stays : (b : Binding) (m : Met) (e : Event) → Over m → Over (met_at b m e)

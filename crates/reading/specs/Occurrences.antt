@@ -3,33 +3,33 @@ use Rattle.std.specs.Prelude.{List, [], ◌∷◌, ◌++◌}
 use Rattle.words.specs.declared.Key.{Key}
 use Rattle.events.specs.declared.Event.{Event}
 use Rattle.events.specs.declared.Event.TheVariants as E
-use Rattle.reading.specs.declared.Argument.{Argument}
-use Rattle.reading.specs.declared.Argument.TheVariants as A
 use Rattle.reading.specs.declared.Kind.{Kind}
 use Rattle.reading.specs.declared.Kind.TheVariants as K
 use Rattle.reading.specs.Head.{argument_of}
+use Rattle.std.specs.Prelude.{Option}
+use Rattle.std.specs.Prelude.{Some, None}
 
 -- %name, or another word
-abbrev pub minimum_of : Event → Argument
-minimum_of (E.Name k) = A.Other
-minimum_of (E.Variable k) = A.Other
-minimum_of (E.Parameter k) = A.Other
-minimum_of (E.Minimum k) = A.Named k
-minimum_of (E.Number v) = A.Other
-minimum_of E.Equal = A.Other
-minimum_of (E.Holds k n) = A.Other
-minimum_of E.Step = A.Other
-minimum_of E.End = A.Other
+abbrev pub minimum_of : Event → Option Key
+minimum_of (E.Name k) = None
+minimum_of (E.Variable k) = None
+minimum_of (E.Parameter k) = None
+minimum_of (E.Minimum k) = Some k
+minimum_of (E.Number v) = None
+minimum_of E.Equal = None
+minimum_of (E.Holds k n) = None
+minimum_of E.Step = None
+minimum_of E.End = None
 
 -- the variable of a kind, or another word
-abbrev pub variable_of : Kind → Event → Argument
+abbrev pub variable_of : Kind → Event → Option Key
 variable_of K.Maximum e = argument_of e
 variable_of K.Minimum e = minimum_of e
 
 -- the variable that a word is
-abbrev pub word_keys : Argument → List Key
-word_keys (A.Named k) = k ∷ []
-word_keys A.Other = []
+abbrev pub word_keys : Option Key → List Key
+word_keys (Some k) = k ∷ []
+word_keys None = []
 
 -- the variables of a kind among the words
 abbrev pub keys_of : Kind → List Event → List Key

@@ -27,7 +27,6 @@ use Rattle.paths.specs.Paths.{paths, most_paths, through}
 use Rattle.paths.specs.Inner.{Routed}
 use Rattle.paths.specs.Routes.{path_at}
 use Rattle.cutting.specs.Cut.{reduced, written}
-use Rattle.reduction.specs.declared.Reduced.TheVariants.{Done, Refused}
 use Rattle.reduction.specs.Combinations.{some_of, formed, winners}
 use Rattle.reduction.specs.Reduction.{is_on, keeping, reduced_diagram, has_kinds, most_runs, runs, most_formed, reduce_answer, answer_of, buffer_of}
 use Rattle.pruning.specs.Pruning.{kept_of, Agrees, Prunable, Pruned}
@@ -35,6 +34,7 @@ use Rattle.reduce.specs.Routing.{winning, stays_in, Won}
 use Rattle.reduce.specs.FormedLaws.{winner-below}
 use Rattle.reduce.specs.Searching.{is_marked}
 use Rattle.reduce.specs.Winning.{Winnable, Winning, Plain, ReduceCallAnswered}
+use Rattle.std.specs.Prelude.{Err, Ok}
 
 -- ===== `count_valuations` =====
 module _ {v p j : ℕ} (few : v ≤ variable_count) (e : p ≡ v ^ j) (h : p ≤ most_runs) (l : j < v) where
@@ -186,7 +186,7 @@ module _ {ar ws counts used : List ℕ} {n m v all : ℕ} {out work : List ℕ} 
   }
 
   module _ {wins wins' : List ℕ} {x : ℕ} (w : Winning ar ws m wins wins' x) where
-    pub plain-many : most_formed < x → ReduceCallAnswered ar ws out (Refused Combinations) out
+    pub plain-many : most_formed < x → ReduceCallAnswered ar ws out (Err Combinations) out
     plain-many h =
         let e : reduce_answer ar d ≡ refused Combinations = answer_at true (lt-ltb most_formed (formed ar d) (omega (arith, w.answer))) in
         record { answer = sym (ap answer_of e); words = sym (ap (buffer_of out) e) }
@@ -214,11 +214,11 @@ module _ {ar ws counts used : List ℕ} {n m v all : ℕ} {out work : List ℕ} 
       left_is = λ i. closed ar (reduced (keeping (λ r b. stays-is r b i) d))
 
       pub plain_done : {edges out' : List ℕ} {k : ℕ} → Agrees ws edges (stays_in ws wins' m)
-          → ((stays : Diagram → Bool → Bool) → Agrees ws edges stays → Pruned ar ws stays out k out') → ReduceCallAnswered ar ws out (Done k) out'
+          → ((stays : Diagram → Bool → Bool) → Agrees ws edges stays → Pruned ar ws stays out k out') → ReduceCallAnswered ar ws out (Ok k) out'
       plain_done a p =
           let t = p (stays_in ws wins' m) a in
           let e : reduce_answer ar d ≡ ok (reduced_diagram ar d) = answer_at false (le-ltb most_formed (formed ar d) (omega (arith, w.answer))) in
           record {
-            answer = ap Done (t.answer ∙ ap (λ (y : Diagram). length (rows y)) left_is) ∙ sym (ap answer_of e);
+            answer = ap Ok (t.answer ∙ ap (λ (y : Diagram). length (rows y)) left_is) ∙ sym (ap answer_of e);
             words = t.words ∙ ap (λ (y : Diagram). written (listing y) out) left_is ∙ sym (ap (buffer_of out) e);
           }

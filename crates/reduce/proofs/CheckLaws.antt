@@ -27,13 +27,12 @@ use Rattle.rename.specs.VariableLaws.{variables-few}
 use Rattle.paths.specs.Paths.{paths, most_paths}
 use Rattle.paths.specs.PathLaws.{listing-rows, paths-some}
 use Rattle.paths.specs.Inner.{Rows, Counted, Routed}
-use Rattle.reduction.specs.declared.Reduced.{Reduced}
-use Rattle.reduction.specs.declared.Reduced.TheVariants.{Refused}
 use Rattle.reduction.specs.Reduction.{has_kinds, most_runs, runs, reduce_answer, answer_of, buffer_of, has_parameter, reduce_call}
 use Rattle.reduce.specs.Winning.{Plain, ReduceCallAnswered, Reducible}
 use Rattle.reduce.proofs.CallLaws.{answer-paths, answer-kinds, answer-runs}
+use Rattle.std.specs.Prelude.{Err, Result}
 
-answered : (ar ws out : List ℕ) (x : Refusal) → reduce_answer ar (diagram_of ws) ≡ refused x → ReduceCallAnswered ar ws out (Refused x) out
+answered : (ar ws out : List ℕ) (x : Refusal) → reduce_answer ar (diagram_of ws) ≡ refused x → ReduceCallAnswered ar ws out (Err x) out
 answered ar ws out x e = record { answer = sym (ap answer_of e); words = sym (ap (buffer_of out) e) }
 
 module _ {ar ws out work : List ℕ} (g : Reducible ar ws out work) where
@@ -62,7 +61,7 @@ module _ {ar ws out work : List ℕ} (g : Reducible ar ws out work) where
     count-is : M ≡ min 257 (length (paths d))
     count-is = c.each (length ws / 3 - 1) (omega (arith, check-some)) ∙ ap (λ (x : Diagram). min 257 (length (paths x))) root_is
 
-    pub check-many : most_paths < M → ReduceCallAnswered ar ws out (Refused Paths) out
+    pub check-many : most_paths < M → ReduceCallAnswered ar ws out (Err Paths) out
     check-many h = answered ar ws out Paths (answer-paths ar d (omega (arith, count-is)))
 
     module _ (h : M ≤ most_paths) where
@@ -82,7 +81,7 @@ module _ {ar ws out work : List ℕ} (g : Reducible ar ws out work) where
       }
 
       module _ {b : Bool} (q : b ≡ has_kinds ar d) where
-        pub check-kinds : b ≡ true → ReduceCallAnswered ar ws out (Refused Kinds) out
+        pub check-kinds : b ≡ true → ReduceCallAnswered ar ws out (Err Kinds) out
         check-kinds e = answered ar ws out Kinds (answer-kinds ar d (omega (arith, few)) (sym q ∙ e))
 
         module _ (e : b ≡ false) {used : List ℕ} (u : Used ar d used) {v : ℕ} (k : v ≡ marked_variables used) where
@@ -103,7 +102,7 @@ module _ {ar ws out work : List ℕ} (g : Reducible ar ws out work) where
             pub check-small : all * M ≤ suc most_runs * most_paths
             check-small = mul-le-mul (let z : all ≤ suc most_runs = omega arith in z) h
 
-            pub check-runs : most_runs < all * M → ReduceCallAnswered ar ws out (Refused Runs) out
+            pub check-runs : most_runs < all * M → ReduceCallAnswered ar ws out (Err Runs) out
             check-runs l = answered ar ws out Runs (answer-runs ar d (omega (arith, few)) kinds (subst (λ (x : ℕ). most_runs < x) (sym runs-are) (go (cmp most_runs (v ^ v)))))
               where
                 same : v ^ v ≤ most_runs → most_runs < v ^ v * M
@@ -131,7 +130,7 @@ module _ {ar ws out work : List ℕ} (g : Reducible ar ws out work) where
                 }
 
 -- ===== `reduce` =====
-abbrev pub Promised : List ℕ → List ℕ → List ℕ → List ℕ → Reduced → List ℕ → Type 0
+abbrev pub Promised : List ℕ → List ℕ → List ℕ → List ℕ → Result ℕ Refusal → List ℕ → Type 0
 Promised ar ws out work r out' = (r ≡ answer_of (reduce_call ar ws (length out) (length work))) × (out' ≡ buffer_of out (reduce_call ar ws (length out) (length work)))
 
 module _ (ar ws out work : List ℕ) where
@@ -145,11 +144,11 @@ module _ (ar ws out work : List ℕ) where
   unfolding reduce_call pick
   call-pick = refl
 
-  not_made : (x : Refusal) → Call ≡ refused x → Promised ar ws out work (Refused x) out
+  not_made : (x : Refusal) → Call ≡ refused x → Promised ar ws out work (Err x) out
   not_made x e = (sym (ap answer_of e), sym (ap (buffer_of out) e))
 
   module _ {b : Bool} (e : b ≡ is_listing ar ws) where
-    pub call-listing : not b ≡ true → Promised ar ws out work (Refused Listing) out
+    pub call-listing : not b ≡ true → Promised ar ws out work (Err Listing) out
     unfolding pick
     call-listing f = not_made Listing
         (call-pick
@@ -164,10 +163,10 @@ module _ (ar ws out work : List ℕ) where
       unfolding pick
       small q = call-pick ∙ ap₂ (λ (a c : Bool). pick a c (has_parameter ar (diagram_of ws)) (reduce_answer ar (diagram_of ws))) call-listed q
 
-      pub call-out : length out < result_words → Promised ar ws out work (Refused Buffer) out
+      pub call-out : length out < result_words → Promised ar ws out work (Err Buffer) out
       call-out h = not_made Buffer (small (or-one _ _ (lt-ltb (length out) result_words h)))
 
-      pub call-work : length work < space_words → Promised ar ws out work (Refused Buffer) out
+      pub call-work : length work < space_words → Promised ar ws out work (Err Buffer) out
       call-work h = not_made Buffer (small (or-other (ltb (length out) result_words) _ (lt-ltb (length work) space_words h)))
 
       module _ (h : result_words ≤ length out) (k : space_words ≤ length work) where
@@ -183,10 +182,10 @@ module _ (ar ws out work : List ℕ) where
         call-reducible = record { listing = call-listed; out-room = h; work-room = k }
 
         module _ {p : Bool} (q : p ≡ has_parameter ar (diagram_of ws)) where
-          pub call-unbound : p ≡ true → Promised ar ws out work (Refused Unbound) out
+          pub call-unbound : p ≡ true → Promised ar ws out work (Err Unbound) out
           unfolding pick
           call-unbound z = not_made Unbound (asked true (sym q ∙ z))
 
-          pub call-done : p ≡ false → {r : Reduced} {out' : List ℕ} → ReduceCallAnswered ar ws out r out' → Promised ar ws out work r out'
+          pub call-done : p ≡ false → {r : Result ℕ Refusal} {out' : List ℕ} → ReduceCallAnswered ar ws out r out' → Promised ar ws out work r out'
           unfolding pick
           call-done z {r} {out'} a = let e : Call ≡ reduce_answer ar (diagram_of ws) = asked false (sym q ∙ z) in (a.answer ∙ sym (ap answer_of e), a.words ∙ sym (ap (buffer_of out) e))

@@ -1,7 +1,7 @@
 -- Laws of `is_on_path`, `edge_word` and `find_edges`.
 use mathlib.Core.Path.{◌≡◌, refl, sym, ap, ◌∙◌}
 use mathlib.Core.Logic.{◌≢◌}
-use mathlib.Core.Bool.{Bool, true, false, not, ◌&&◌, ◌||◌, and-false}
+use mathlib.Core.Bool.{Bool, true, false, not, ◌||◌}
 use mathlib.Core.List.{List}
 use Prim.Native.Nat.{ℕ, zero, suc, ◌+◌, ◌-◌, ◌*◌, ◌≤◌, ◌<◌}
 use native.Mathlib.Omega.{arith}
@@ -32,7 +32,7 @@ module _ {ws counts wins : List ℕ} {n m r side p : ℕ} (w : Won ws counts win
   abbrev On : Bool
   On = is_on_path (tree ws (n - 1)) wins (tree ws r) (eqb side 1) p
 
-  pub unmarked-off : get_or wins p 0 ≡ 0 → false ≡ On
+  pub unmarked-off : get_or wins p 0 ≡ 0 → not (eqb (get_or wins p 0) 0) ≡ On
   unfolding is_on_path
   unmarked-off q = rw (eq-eqb (get_or wins p 0) 0 q)
 
@@ -45,13 +45,9 @@ module _ {ws counts wins : List ℕ} {n m r side p : ℕ} (w : Won ws counts win
         go (equal q) = rw (q) s.on-true
         go (above q) = let z : side ≡ 2 = omega (arith, e.high) in rw (z) s.on-false
 
-    pub other-side : (x ≡ side → ⊥) → false ≡ On
+    pub this-side : (get_or wins p 0 ≡ 0 → ⊥) → eqb x side ≡ On
     unfolding is_on_path
-    other-side q = sym (ap (λ (b : Bool). not (eqb (get_or wins p 0) 0) && b) (goes_through ∙ ne_eqb x side q) ∙ and-false (not (eqb (get_or wins p 0) 0)))
-
-    pub this-side : (get_or wins p 0 ≡ 0 → ⊥) → x ≡ side → true ≡ On
-    unfolding is_on_path
-    this-side u q = rw (ne_eqb (get_or wins p 0) 0 u, goes_through, eq-eqb x side q)
+    this-side u = rw (ne_eqb (get_or wins p 0) 0 u, goes_through)
 
 -- `edge_word`
 module _ {ws counts wins : List ℕ} {n m r side : ℕ} (w : Won ws counts wins n m) (e : Edged n r side) where

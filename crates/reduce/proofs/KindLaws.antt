@@ -1,15 +1,18 @@
 -- Laws of `has_marked`, `has_kinds` and `has_parameter`.
 use mathlib.Core.Path.{◌≡◌, refl, sym, ap, ap₂, subst, ◌∙◌}
-use mathlib.Core.Logic.{◌⊎◌, inl, inr, ⊎_elim}
+use mathlib.Core.Logic.{◌⊎◌, inl, ⊎_elim}
 use mathlib.Core.Bool.{Bool, true, false, not, ◌||◌, ◌&&◌, cond}
 use mathlib.Core.List.{List}
 use Prim.Native.Nat.{ℕ, zero, suc, pred, ◌+◌, ◌-◌, ◌*◌, ◌/◌, ◌≤◌, ◌<◌}
 use native.Mathlib.Omega.{arith}
 use native.Mathlib.Nat.{zero-add}
-use native.Mathlib.Numerals.{add-one}
-use lib.ListN.{length, get_or}
-use lib.Dec.{eqb}
-use borrow.Author.Tests.{eq-eqb, ne_eqb, eqb-true, eqb-false, lt-ltb, ltb-true, not-true, not-false}
+use lib.ListN.{length, get_or, take, drop, length-drop}
+use Rattle.std.proofs.Math.Seq.{take-suc}
+use Rattle.std.proofs.lemmas.List.{get_or-drop}
+use Rattle.std.proofs.lemmas.List.Folds.{list_any-append}
+use Rattle.std.specs.List.{list_any}
+use lib.Dec.{eqb, ltb}
+use borrow.Author.Tests.{eq-eqb, ne_eqb, eqb-true, eqb-false, lt-ltb, ltb-true}
 use Rattle.basics.specs.Tests.{Flag, is_true, is_false, flag, Cmp, cmp, below, equal, above, Either, one, other, either, or-one, or-other}
 use Rattle.basics.specs.Members.{mem, clash}
 use Rattle.label.specs.Limits.{constant_count, first_parameter, parameter_count, term_end, leaf_mark, predicate_weight, equality}
@@ -31,9 +34,11 @@ use Rattle.reduce.specs.Winning.{some_used, Markable}
 use Rattle.reduce.proofs.CallLaws.{some-mem, mem-some}
 
 -- `has_marked`
-pub used_start : (used : List ℕ) (first : ℕ) → some_used used first 0 ≡ false
-unfolding some_used
-used_start used first = refl
+turned : (a b : Bool) → (a || (b || false)) ≡ (b || a)
+turned true true = refl
+turned true false = refl
+turned false true = refl
+turned false false = refl
 
 module _ (used : List ℕ) (first : ℕ) where
   used_step : (t : ℕ) → some_used used first (suc t) ≡ (not (eqb (get_or used (first + t) 0) 0) || some_used used first t)
@@ -49,17 +54,15 @@ module _ (used : List ℕ) (first : ℕ) where
       go (equal q) ih = or-one _ (some_used used first n) (ap not (ne_eqb (get_or used (first + n) 0) 0 (λ z. e (ap (λ (k : ℕ). get_or used (first + k) 0) q ∙ z))))
       go (above q) ih = absurd (omega arith)
 
-  pub used-found : (t n : ℕ) → t < n → (get_or used (first + t) 0 ≡ 0 → ⊥) → true ≡ some_used used first n
-  used-found t n h e = sym (used-later t n h e)
-
-  pub used-on : (t : ℕ) → some_used used first t ≡ false → get_or used (first + t) 0 ≡ 0 → some_used used first (t + 1) ≡ false
-  used-on t e z = ap (some_used used first) (add-one t) ∙ used_step t ∙ ap₂ (λ (a b : Bool). not a || b) (eq-eqb (get_or used (first + t) 0) 0 z) e
-
-  pub used-none : (t n : ℕ) → some_used used first t ≡ false → t ≤ n → n ≤ t → false ≡ some_used used first n
-  used-none t n e h k = sym (ap (some_used used first) (let z : n ≡ t = omega arith in z) ∙ e)
+  pub used_listed : (n : ℕ) → first + n ≤ length used → list_any (λ (x : ℕ). not (eqb x 0)) (take n (drop first used)) ≡ some_used used first n
+  unfolding some_used
+  used_listed zero h = refl
+  used_listed (suc n) h =
+      let l : n < length (drop first used) = omega (arith, length-drop first used) in
+      rw (take-suc (drop first used) n 0 l, list_any-append, get_or-drop, used_listed n (omega arith)) (turned (some_used used first n) (not (eqb (get_or used (first + n) 0) 0)))
 
   used-from : (n : ℕ) → some_used used first n ≡ true → (t : ℕ) × (t < n) × (get_or used (first + t) 0 ≡ 0 → ⊥)
-  used-from zero e = clash e (used_start used first)
+  used-from zero e = clash e (unfold some_used in refl)
   used-from (suc n) e = go (flag (eqb (get_or used (first + n) 0) 0)) (used-from n)
     where
       go : Flag (eqb (get_or used (first + n) 0) 0) → (some_used used first n ≡ true → (t : ℕ) × (t < n) × (get_or used (first + t) 0 ≡ 0 → ⊥))
@@ -159,9 +162,6 @@ module _ (ar : List ℕ) (d : Diagram) where
   kinds-some : (is_general ar d ≡ false) ⊎ (is_plain ar d ≡ false) → true ≡ has_kinds ar d
   kinds-some h = sym (kinds-are ∙ some-kind (is_general ar d) (is_plain ar d) h)
 
-  kinds-none : is_general ar d ≡ true → is_plain ar d ≡ true → false ≡ has_kinds ar d
-  kinds-none g p = sym (kinds-are ∙ ap₂ (λ (a b : Bool). not (a && b)) g p)
-
 module _ {ar ws used : List ℕ} {n : ℕ} (g : Markable ar ws used n) where
   valid : Valid ar ws
   valid = listing-is-valid ar ws g.listing
@@ -189,11 +189,11 @@ module _ {ar ws used : List ℕ} {n : ℕ} (g : Markable ar ws used n) where
   unfolding label_at high_at
   leaf-is e = sym root_is ∙ (shown-rows ar ws valid).leaves (n - 1) (omega (arith, g.whole, valid.some)) e
 
-  pub kinds-equality : L < predicate_weight → true ≡ has_kinds ar d
+  pub kinds-equality : L < predicate_weight → ltb L predicate_weight ≡ has_kinds ar d
   kinds-equality h =
       let t = tree ws (get_or ws ((n - 1) * 3 + 1) 0) in
       let f = tree ws (get_or ws ((n - 1) * 3 + 2) 0) in
-      kinds-some ar d (inl (ap (is_general ar) (branch-is (λ z. omega arith)) ∙ general-branch ar L t f
+      lt-ltb L predicate_weight h ∙ kinds-some ar d (inl (ap (is_general ar) (branch-is (λ z. omega arith)) ∙ general-branch ar L t f
       ∙ (not-general (eqb (predicate_of L) equality) (some_of is_constant (terms_of ar (unpacked L))) (is_general ar t) (is_general ar f)).0 (low-label L h)))
 
   occurs-used : (t : ℕ) → t < term_end → (get_or used t 0 ≡ 0 → ⊥) → occurs ar t d ≡ true
@@ -215,11 +215,11 @@ module _ {ar ws used : List ℕ} {n : ℕ} (g : Markable ar ws used n) where
   constant-below t e = ltb-true t constant_count e
 
   module _ {b : Bool} (q : b ≡ some_used used 0 constant_count) where
-    pub kinds-constant : b ≡ true → true ≡ has_kinds ar d
+    pub kinds-constant : b ≡ true → b ≡ has_kinds ar d
     kinds-constant e =
         let r = used-from used 0 constant_count (sym q ∙ e) in
         let o = occurs-used r.0 (omega (arith, r.1)) (λ z. r.2 (ap (λ (k : ℕ). get_or used k 0) (zero-add r.0) ∙ z)) in
-        kinds-some ar d (inl (general-constant ar r.0 (constant-is r.0 r.1) d o))
+        e ∙ kinds-some ar d (inl (general-constant ar r.0 (constant-is r.0 r.1) d o))
 
     general-yes : predicate_weight ≤ L → b ≡ false → is_general ar d ≡ true
     general-yes h e = general-true ar d predicate_weight (from (flag (eqb L leaf_mark))) (omega arith) none
@@ -249,11 +249,8 @@ module _ {ar ws used : List ℕ} {n : ℕ} (g : Markable ar ws used n) where
       plain-is : p ≡ is_plain ar d
       plain-is = w ∙ marked-plain ar d used g.marks
 
-      pub kinds-minimum : not p ≡ true → true ≡ has_kinds ar d
-      kinds-minimum e = kinds-some ar d (inr (sym plain-is ∙ not-true p e))
-
-      pub kinds-no : predicate_weight ≤ L → b ≡ false → not p ≡ false → false ≡ has_kinds ar d
-      kinds-no h z e = kinds-none ar d (general-yes h z) (sym plain-is ∙ not-false p e)
+      pub kinds-minimum : predicate_weight ≤ L → b ≡ false → not p ≡ has_kinds ar d
+      kinds-minimum h z = sym (kinds-are ar d ∙ ap₂ (λ (x y : Bool). not (x && y)) (general-yes h z) (sym plain-is))
 
 -- `has_parameter`
 module _ (ar used : List ℕ) (x : Diagram) (u : Used ar x used) where
@@ -286,8 +283,5 @@ module _ (ar used : List ℕ) (x : Diagram) (u : Used ar x used) where
       go (is_false a) (is_true b) = clash b (quiet-parameter ar x (none a))
       go (is_false a) (is_false b) = a ∙ sym b
 
-  pub parameter-yes : {b : Bool} → b ≡ some_used used first_parameter parameter_count → b ≡ true → true ≡ has_parameter ar x
-  parameter-yes q e = sym e ∙ q ∙ parameter-is
-
-  pub parameter-no : {b : Bool} → b ≡ some_used used first_parameter parameter_count → b ≡ false → false ≡ has_parameter ar x
-  parameter-no q e = sym e ∙ q ∙ parameter-is
+  pub parameter-marked : {b : Bool} → b ≡ some_used used first_parameter parameter_count → b ≡ has_parameter ar x
+  parameter-marked q = q ∙ parameter-is

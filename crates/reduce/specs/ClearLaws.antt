@@ -1,5 +1,5 @@
 -- What the search allows is what is consistent, and the ways down a diagram are its paths that are allowed.
-use Rattle.std.specs.Prelude.{◌≡◌, Bool, true, false, not, ◌&&◌, ◌||◌, cond, ℕ, zero, suc, ◌+◌, ◌-◌, ◌*◌, ◌/◌, ◌%◌, ◌<◌, eqb}
+use Rattle.std.specs.Prelude.{◌≡◌, Bool, true, false, not, ◌&&◌, ◌||◌, cond, ℕ, zero, suc, ◌+◌, ◌*◌, ◌/◌, ◌%◌, ◌<◌, eqb}
 use Rattle.std.proofs.Math.Path.{refl, sym}
 use Rattle.std.proofs.Common.{ap, ap₂, ◌∙◌, arith, add-zero, eqb-true, eq-eqb, ne_eqb}
 use mathlib.Core.List.{List, [], ◌∷◌, ◌++◌, map, append-nil}
@@ -341,7 +341,8 @@ module _ (fact : ℕ → ℕ) where
           ≡ ways_over (map (λ cs. hi ∷ cs) ct) known k ++ ways_over (map (λ cs. lo ∷ cs) cf) known (k + length (paths t))
       both =
           ap (λ (css : List (List ℕ)). ways_over css known k)
-          (map-append (map (step_before (step_on true l t f)) (paths t)) (map (step_before (step_on false l t f)) (paths f)) ∙ ap₂ ◌++◌ (codes-map true l t f (paths t)) (codes-map false l t f (paths f)))
+          (map-append (map (step_before (step_on true l t f)) (paths t)) (map (step_before (step_on false l t f)) (paths f))
+          ∙ ap₂ ◌++◌ (codes-map true l t f (paths t)) (codes-map false l t f (paths f)))
           ∙ over-append (map (λ cs. hi ∷ cs) ct) (map (λ cs. lo ∷ cs) cf) known k
           ∙ ap (λ (n : ℕ). ways_over (map (λ cs. hi ∷ cs) ct) known k ++ ways_over (map (λ cs. lo ∷ cs) cf) known (k + n))
           (length-map ct (λ cs. hi ∷ cs) ∙ length-map (paths t) (codes_of fact))

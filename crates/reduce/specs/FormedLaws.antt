@@ -5,7 +5,7 @@ use Rattle.std.proofs.Common.{◌∙◌, inl, inr, arith, eq-eqb, ne_eqb, eqb-tr
 use Rattle.std.proofs.Math.Bool.{true, not}
 use mathlib.Core.List.Memᴰ
 use mathlib.Core.List.{List, [], ◌∷◌, ◌++◌, map, reverse, append-nil, append_assoc, Memᴰ, reverse-cons}
-use Prim.Native.Nat.{ℕ, zero, suc, ◌+◌, ◌-◌, ◌≤◌, ◌<◌}
+use Prim.Native.Nat.{ℕ, zero, suc, ◌+◌, ◌≤◌, ◌<◌}
 use Rattle.std.proofs.Math.ListN.{length-map}
 use Rattle.std.proofs.Math.Dec.{eqb}
 use Rattle.basics.specs.Tests.{Flag, is_true, is_false, flag}
@@ -210,7 +210,8 @@ module _ (ar : List ℕ) (d : Diagram) where
     ways-are =
         ways-over (fact os) d p.known 0
         ∙ ap (λ (css : List (List ℕ)). ways_over css p.known 0)
-        (ap (map (codes_of (fact os))) (paths-are d) ∙ map-map (codes_of (fact os)) (path_at d) (up_to (length (paths d))) ∙ ap (map (λ k. codes_of (fact os) (path_at d k))) (up-count (length (paths d))))
+        (ap (map (codes_of (fact os))) (paths-are d) ∙ map-map (codes_of (fact os)) (path_at d) (up_to (length (paths d)))
+        ∙ ap (map (λ k. codes_of (fact os) (path_at d k))) (up-count (length (paths d))))
 
     nexts-choices : map (λ (q : Pair). q.choice) (nexts os p) ≡ those (is_consistent ar d (os ∷ us)) (map (λ k. k ∷ p.choice) (up_to (length (paths d))))
     unfolding nexts pair_of

@@ -6,11 +6,12 @@ use Rattle.diagram.specs.Listing.{diagram_of}
 use Rattle.diagram.specs.Variables.{variables}
 use Rattle.listing.specs.Used.{Used}
 use Rattle.reduction.specs.Combinations.{formed, winners}
-use Rattle.reduction.specs.declared.Reduced.{Reduced}
 use Rattle.reduction.specs.Reduction.{most_runs, most_formed, has_kinds, reduce_answer, answer_of, buffer_of}
 use Rattle.diagram.specs.Sizes.{result_words, space_words}
 use Rattle.paths.specs.Inner.{Routed}
 use Rattle.reduce.specs.Searching.{is_marked}
+use Rattle.refusal.specs.declared.Refusal.{Refusal}
+use Rattle.std.specs.Prelude.{Result}
 
 -- a listing with its paths and the marks of its terms, few enough valuations and paths (27), and a place for each path
 pub record Winnable (ar ws counts marks wins : List ℕ) (n m v all : ℕ) : Type 0 where
@@ -42,7 +43,7 @@ pub record Plain (ar ws counts used : List ℕ) (n m v all : ℕ) (out work : Li
   pub work-room : space_words ≤ length work
 
 -- what the call promises: the answer, and the result buffer
-pub record ReduceCallAnswered (ar ws out : List ℕ) (r : Reduced) (out' : List ℕ) : Type 0 where
+pub record ReduceCallAnswered (ar ws out : List ℕ) (r : Result ℕ Refusal) (out' : List ℕ) : Type 0 where
   pub answer : r ≡ answer_of (reduce_answer ar (diagram_of ws))
   pub words : out' ≡ buffer_of out (reduce_answer ar (diagram_of ws))
 

@@ -17,7 +17,6 @@ ghost use Rattle.reduce.specs.Winning.{Winnable, Winning, Plain, ReduceCallAnswe
 
 use label::{Label, Term};
 use paths::PATHS;
-use reduction::Reduced;
 use refusal::Refusal;
 
 // Facts at most: valuations times rows, of which there are fewer than twice the paths.
@@ -36,13 +35,11 @@ fn sign_of(known: &[u64], count: usize, fact: u64) -> u64
     requires { count ≤ length known.now }
     ensures { result ≡ sign_of (stacked known.now count) fact }
 {
-    let mut c = count;
-    while c > 0 {
-        let x = known[c - 1];
+    for c in (0..count).rev() {
+        let x = known[c];
         if x / 2 == fact {
             return x % 2;
         }
-        c -= 1;
     }
     UNKNOWN
 }
@@ -63,10 +60,7 @@ fn better(words: &[u64], leaves: &[u64], n: usize, m: usize, best: usize, k: usi
     if leaves[k] < leaves[best] {
         return best;
     }
-    if k < best {
-        return k;
-    }
-    best
+    k.min(best)
 }
 
 // A path of this valuation is found: it is one formed. Behind the last valuation the winning path is marked, else the next valuation begins at the root.
@@ -243,12 +237,10 @@ fn objects_into(v: usize, all: usize, i: usize, out: &mut [u64])
 {
     let mut p = all;
     let mut x = i;
-    let mut j = 0;
-    while j < v {
+    for j in 0..v {
         p = p / v;
         out[j] = (x / p) as u64;
         x = x % p;
-        j += 1;
     }
 }
 
@@ -276,12 +268,10 @@ fn object_map(marks: &[u64], objects: &[u64], map: &mut [u64])
     requires { Mapping marks.now objects.now map.old }
     ensures { Mapped marks.now objects.now map.new term_end }
 {
-    let mut t = 0;
     let mut c = 0;
-    while t < (Term::END as usize) {
+    for t in 0..Term::END as usize {
         map[t] = objects[c];
         c = rank_after(marks, t, c);
-        t += 1;
     }
 }
 
@@ -296,9 +286,7 @@ fn fact_word(arities: &[u64], words: &[u64], map: &[u64], n: usize, r: usize) ->
     if w == Label::LEAF {
         return 0;
     }
-    let l = Label { packed: w };
-    let f = l.renamed(arities, map);
-    f.packed
+    Label { packed: w }.renamed(arities, map).packed
 }
 
 // Fills in the facts of the n rows' labels from the place `base` on.
@@ -308,10 +296,8 @@ fn fact_rows(arities: &[u64], words: &[u64], map: &[u64], n: usize, base: usize,
     requires n_in_bounds { base + n ≤ length facts.old }
     ensures { Filled arities.now words.now map.now base n facts.old facts.new }
 {
-    let mut r = 0;
-    while r < n {
+    for r in 0..n {
         facts[base + r] = fact_word(arities, words, map, n, r);
-        r += 1;
     }
 }
 
@@ -351,11 +337,9 @@ fn fill_facts(
     ensures { Tabled arities.now words.now marks.now n v all facts.new }
 {
     let mut base = 0;
-    let mut i = 0;
-    while i < all {
+    for i in 0..all {
         fact_block(arities, words, marks, n, v, all, i, base, facts);
         base += n;
-        i += 1;
     }
 }
 
@@ -414,13 +398,7 @@ fn is_on_path(
     requires p_lt_m { p < m }
     ensures { result ≡ is_on_path (tree words.now (n - 1)) wins.now (tree words.now r) (eqb side 1) p }
 {
-    if wins[p] == 0 {
-        return false;
-    }
-    if paths::side_of(words, counts, n, p as u64, r) != side {
-        return false;
-    }
-    true
+    wins[p] != 0 && paths::side_of(words, counts, n, p as u64, r) == side
 }
 
 // The word of the edge of the branch row r on that side: 1 if one of the m paths that is marked goes through it, else 0.
@@ -440,12 +418,10 @@ fn edge_word(
     if words[r * 3] == Label::LEAF {
         return 0;
     }
-    let mut p = 0;
-    while p < m {
+    for p in 0..m {
         if is_on_path(words, counts, n, m, wins, r, side, p) {
             return 1;
         }
-        p += 1;
     }
     0
 }
@@ -457,11 +433,9 @@ fn find_edges(words: &[u64], counts: &[u64], m: usize, wins: &[u64], edges: &mut
     ensures { Agrees words.now edges.new (stays_in words.now wins.now m) }
 {
     let n = words.len() / 3;
-    let mut i = 0;
-    while i < n {
+    for i in 0..n {
         edges[i * 2] = edge_word(words, counts, n, m, wins, i, 1);
         edges[i * 2 + 1] = edge_word(words, counts, n, m, wins, i, 2);
-        i += 1;
     }
 }
 
@@ -471,13 +445,11 @@ fn count_valuations(v: usize) -> usize
     ensures { result ≡ min (suc most_runs) (v ^ v) }
 {
     let mut p = 1;
-    let mut j = 0;
-    while j < v {
+    for j in 0..v {
         p = p * v;
         if p > RUNS {
             return RUNS + 1;
         }
-        j += 1;
     }
     p
 }
@@ -494,19 +466,18 @@ fn reduce_plain(
     all: usize,
     out: &mut [u64],
     work: &mut [u64],
-) -> Reduced
+) -> Result<usize, Refusal>
     requires { Plain arities.now words.now counts.now used.now n m v all out.old work.old }
     ensures { ReduceCallAnswered arities.now words.now out.old result out.new }
 {
     let mut wins = [0u64; PATHS];
     let formed = find_winners(arities, words, counts, used, n, m, v, all, &mut wins);
     if formed > FORMED {
-        return Reduced::Refused(Refusal::Combinations);
+        return Err(Refusal::Combinations);
     }
     let mut edges = [0u8; pruning::EDGES];
     find_edges(words, counts, m, &wins, &mut edges);
-    let left = pruning::prune(arities, words, &edges, out, work);
-    Reduced::Done(left)
+    Ok(pruning::prune(arities, words, &edges, out, work))
 }
 
 // Whether one of the n terms from `first` on is marked.
@@ -514,14 +485,7 @@ fn has_marked(used: &[u64], first: usize, n: usize) -> bool
     requires { first + n ≤ length used.now }
     ensures { result ≡ some_used used.now first n }
 {
-    let mut t = 0;
-    while t < n {
-        if used[first + t] != 0 {
-            return true;
-        }
-        t += 1;
-    }
-    false
+    used[first..first + n].iter().any(|t| *t != 0)
 }
 
 // Whether an equality, a constant or a minimum variable is present; used[t] marks the terms that occur. Labels grow from the root down, and those of equalities are the lowest.
@@ -529,20 +493,18 @@ fn has_kinds(arities: &[u64], words: &[u64], used: &[u64], n: usize) -> bool
     requires { Markable arities.now words.now used.now n }
     ensures { result ≡ has_kinds arities.now (diagram_of words.now) }
 {
-    if words[(n - 1) * 3] < Label::PREDICATE_WEIGHT {
-        return true;
-    }
-    if has_marked(used, 0, Term::CONSTANTS as usize) {
-        return true;
-    }
-    if !listing::is_plain(used) {
-        return true;
-    }
-    false
+    words[(n - 1) * 3] < Label::PREDICATE_WEIGHT
+        || has_marked(used, 0, Term::CONSTANTS as usize)
+        || !listing::is_plain(used)
 }
 
 // Reduces a listing that is one: 17 over 256 paths, 26, 27, 28, else the rows left.
-pub fn reduce_checked(arities: &[u64], words: &[u64], out: &mut [u64], work: &mut [u64]) -> Reduced
+pub fn reduce_checked(
+    arities: &[u64],
+    words: &[u64],
+    out: &mut [u64],
+    work: &mut [u64],
+) -> Result<usize, Refusal>
     requires { Reducible arities.now words.now out.old work.old }
     ensures { ReduceCallAnswered arities.now words.now out.old result out.new }
 {
@@ -552,16 +514,16 @@ pub fn reduce_checked(arities: &[u64], words: &[u64], out: &mut [u64], work: &mu
     paths::count_paths(words, &mut counts, n);
     let m = counts[n - 1] as usize;
     if m > PATHS {
-        return Reduced::Refused(Refusal::Paths);
+        return Err(Refusal::Paths);
     }
     listing::used(arities, words, &mut used);
     if has_kinds(arities, words, &used, n) {
-        return Reduced::Refused(Refusal::Kinds);
+        return Err(Refusal::Kinds);
     }
     let v = listing::count_variables(&used);
     let all = count_valuations(v);
     if all * m > RUNS {
-        return Reduced::Refused(Refusal::Runs);
+        return Err(Refusal::Runs);
     }
     reduce_plain(arities, words, &counts, &used, n, m, v, all, out, work)
 }
@@ -573,32 +535,34 @@ fn has_parameter(arities: &[u64], words: &[u64]) -> bool
 {
     let mut used = [0u64; TERMS];
     listing::used(arities, words, &mut used);
-    if has_marked(
+    has_marked(
         &used,
         Term::FIRST_PARAMETER as usize,
         Term::PARAMETERS as usize,
-    ) {
-        return true;
-    }
-    false
+    )
 }
 
 // Reduces a lent listing: the result is written to `out`, `work` is the working space. Refused: 14, 18, 6 for a parameter, then 17, 26, 27, 28.
-pub fn reduce(arities: &[u64], words: &[u64], out: &mut [u64], work: &mut [u64]) -> Reduced
+pub fn reduce(
+    arities: &[u64],
+    words: &[u64],
+    out: &mut [u64],
+    work: &mut [u64],
+) -> Result<usize, Refusal>
     ensures value { result ≡ answer_of (reduce_call arities.now words.now (length out.old) (length work.old)) }
     ensures out_after { out.new ≡ buffer_of out.old (reduce_call arities.now words.now (length out.old) (length work.old)) }
 {
     if !listing::check(arities, words) {
-        return Reduced::Refused(Refusal::Listing);
+        return Err(Refusal::Listing);
     }
     if out.len() < diagram::RESULT_WORDS {
-        return Reduced::Refused(Refusal::Buffer);
+        return Err(Refusal::Buffer);
     }
     if work.len() < diagram::SPACE_WORDS {
-        return Reduced::Refused(Refusal::Buffer);
+        return Err(Refusal::Buffer);
     }
     if has_parameter(arities, words) {
-        return Reduced::Refused(Refusal::Unbound);
+        return Err(Refusal::Unbound);
     }
     reduce_checked(arities, words, out, work)
 }

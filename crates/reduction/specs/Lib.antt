@@ -28,7 +28,7 @@
 --   most_formed == 100,000 (28)
 --   reduce_answer == the diagram left, or the first of 17, 26, 27, 28
 --   has_parameter, reduce_call == a parameter is present; what the call on lent words answers: 14, 18, 6, then those
---   Reduced, answer_of, buffer_of == what the call answers and leaves in the result buffer
+--   answer_of, buffer_of == what the call answers and leaves in the result buffer
 --
 -- Definitions: what the theorems say
 --   Once, Sorted == each member of a list once; each in a relation to those behind it

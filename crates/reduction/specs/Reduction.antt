@@ -15,9 +15,9 @@ use Rattle.regression.specs.RegressCall.{any_occurs}
 use Rattle.paths.specs.Paths.{paths, most_paths, through}
 use Rattle.paths.specs.Routes.{path_at}
 use Rattle.cutting.specs.Cut.{reduced, written}
-use Rattle.reduction.specs.declared.Reduced.{Reduced}
-use Rattle.reduction.specs.declared.Reduced.TheVariants.{Done, Refused}
 use Rattle.reduction.specs.Combinations.{some_of, winners, formed}
+use Rattle.refusal.specs.declared.Refusal.{Refusal}
+use Rattle.std.specs.Prelude.{Err, Ok, Result}
 
 -- ===== "turn every edge on no winning path to 0, then reduce and close up" =====
 
@@ -89,9 +89,9 @@ reduce_call ar ws n m =
     (reduce_answer ar (diagram_of ws))))
 
 -- "printing (reduce rows)"
-abbrev pub answer_of : Outcome Diagram → Reduced
-answer_of (ok r) = Done (length (rows r))
-answer_of (refused x) = Refused x
+abbrev pub answer_of : Outcome Diagram → Result ℕ Refusal
+answer_of (ok r) = Ok (length (rows r))
+answer_of (refused x) = Err x
 
 -- the result buffer after a reduction: the listing of what is left, the words behind it as they were; after a refusal as it was
 abbrev pub buffer_of : List ℕ → Outcome Diagram → List ℕ

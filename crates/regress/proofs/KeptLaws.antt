@@ -19,7 +19,6 @@ use Rattle.diagram.specs.Validity.{tree}
 use Rattle.diagram.specs.Sizes.{space_rows}
 use Rattle.diagram.specs.RowLaws.{onto-mem}
 use Rattle.apply.specs.Formed.{add}
-use Rattle.store.specs.declared.Formed.{Formed}
 use Rattle.store.specs.Space.{diagrams_of, Formation}
 use Rattle.regression.specs.Calls.{Run, bind, form}
 use Rattle.regression.proofs.CallLaws.{Steady, steady-bind, steady-form, form-forms, form-old}
@@ -28,8 +27,6 @@ use Rattle.regression.proofs.StepLaws.{steady-step}
 use Rattle.regression.specs.Regression.{Truths, truth_at}
 use Rattle.regression.proofs.RegressionLaws.{steady-truth}
 use Rattle.regression.specs.RegressCall.{truths_of}
-use Rattle.row_steps.specs.declared.Stepped.{Stepped}
-use Rattle.row_steps.specs.declared.Stepped.TheVariants.{Row, Refused}
 use Rattle.row_steps.specs.Running.{Ready, Three, Gave, Ran}
 use Rattle.row_steps.specs.RunLaws.{in-room, ran-bind, ran-stop, ran-cast, ran-answer}
 use Rattle.truths.specs.TruthChecks.{Lent}
@@ -38,6 +35,7 @@ use Rattle.regress.specs.declared.Task.TheVariants.{Leaf, Branch}
 use Rattle.regress.specs.Keeping.{Known, formed_truth, Asking, slots, slot_base, slot_label, slot_row, Stands, Keeps, KeptRan}
 use Rattle.regress.specs.Tasks.{task_run, Tasked, told_as}
 use Rattle.regress.proofs.RowsLaws.{leaf-told, ready_on}
+use Rattle.std.specs.Prelude.{Err, Ok, Option, Result}
 
 pub known-now : {A : Type 0} (m : Run A) (a : A) (rs qs : List Diagram) → m rs ≡ ok (a, qs) → Known m a qs
 known-now m a rs qs e = record { before = rs; after = qs; ran = e; there = λ x h. h }
@@ -64,7 +62,7 @@ keeps-later {ar} {T} m {s₀} {count} {i} {n} {s} {kept} y g k = record { places
           (known-later (formed_truth ar T l) (tree s₀ j) (diagrams_of s₀ count) (diagrams_of s n) (y.grows (diagrams_of s₀ count) (tree s i) (diagrams_of s n) g.gives) x.known);
     }
 
-kept-ran : {limit : ℕ} {ar : List ℕ} {T : Truths} (m : Run Diagram) {s₀ : List ℕ} {count : ℕ} {r : Stepped} {s heads links index kept : List ℕ} → Steady m
+kept-ran : {limit : ℕ} {ar : List ℕ} {T : Truths} (m : Run Diagram) {s₀ : List ℕ} {count : ℕ} {r : Result (ℕ × ℕ) (Refusal × ℕ)} {s heads links index kept : List ℕ} → Steady m
     → Ran limit m s₀ count r s heads links index → Keeps ar T s₀ count kept → KeptRan limit ar T m s₀ count r s heads links index kept
 kept-ran m y x k = record { ran = x; keeps = λ i n e. keeps-later m y (x.row i n e) k }
 
@@ -92,7 +90,7 @@ module _ {ar truths spans : List ℕ} {l : ℕ} (q : Asking ar truths spans l) {
   stands : get_or kept h 0 / slot_base ≡ l → Stands ar T s₀ count l (get_or kept h 0 % slot_base)
   stands e = subst (λ (x : ℕ). Stands ar T s₀ count x (get_or kept h 0 % slot_base)) e (k.each h inside (rw e q.label))
 
-  pub kept-hit : get_or kept h 0 / slot_base ≡ l → KeptRan limit ar T (formed_truth ar T l) s₀ count (Row (get_or kept h 0 % slot_base) count) s₀ heads₀ links₀ index kept
+  pub kept-hit : get_or kept h 0 / slot_base ≡ l → KeptRan limit ar T (formed_truth ar T l) s₀ count (Ok ((get_or kept h 0 % slot_base), count)) s₀ heads₀ links₀ index kept
   kept-hit e =
       let x = stands e in
       let a = known-again (formed_truth ar T l) (tree s₀ (get_or kept h 0 % slot_base)) (diagrams_of s₀ count) (steady-formed ar T l) x.known (in-room ready.space.holds) in
@@ -101,17 +99,27 @@ module _ {ar truths spans : List ℕ} {l : ℕ} (q : Asking ar truths spans l) {
         ran = record {
           space = ready.space;
           clean = ready.clean;
-          row = λ i n z. let p : get_or kept h 0 % slot_base ≡ i = cc in let r : count ≡ n = cc in rw (← p, ← r) g;
+          row = λ i n z.
+              let y : ◌≡◌ {A = ℕ × ℕ} (get_or kept h 0 % slot_base, count) (i, n) = cc in
+              let p : get_or kept h 0 % slot_base ≡ i = ap (λ (y : ℕ × ℕ). y.0) y in
+              let r : count ≡ n = ap (λ (y : ℕ × ℕ). y.1) y in
+              rw (← p, ← r) g;
           refusal = λ w n z x. let y : ◌≡◌ {A = ℕ} 0 1 = cc in absurd (omega arith);
         };
-        keeps = λ i n z. let r : count ≡ n = cc in rw (← r) k;
+        keeps = λ i n z.
+            let y : ◌≡◌ {A = ℕ × ℕ} (get_or kept h 0 % slot_base, count) (i, n) = cc in
+            let r : count ≡ n = ap (λ (y : ℕ × ℕ). y.1) y in
+            rw (← r) k;
       }
 
-  module _ {r : Stepped} {s heads links index' : List ℕ} (x : Ran limit (formed_truth ar (truths_of truths spans) l) s₀ count r s heads links index') where
-    pub kept-stop : {w : Refusal} {n : ℕ} → r ≡ Refused w n → KeptRan limit ar T (formed_truth ar T l) s₀ count r s heads links index' kept
-    kept-stop {w} {n} e = record { ran = x; keeps = λ i m z. let a : Refused w n ≡ Row i m = sym e ∙ z in let y : ◌≡◌ {A = ℕ} 0 1 = cc in absurd (omega arith) }
+  module _ {r : Result (ℕ × ℕ) (Refusal × ℕ)} {s heads links index' : List ℕ} (x : Ran limit (formed_truth ar (truths_of truths spans) l) s₀ count r s heads links index') where
+    pub kept-stop : {w : Refusal} {n : ℕ} → r ≡ Err (w, n) → KeptRan limit ar T (formed_truth ar T l) s₀ count r s heads links index' kept
+    kept-stop {w} {n} e = record {
+      ran = x;
+      keeps = λ i m z. let a : ◌≡◌ {A = Result (ℕ × ℕ) (Refusal × ℕ)} (Err (w, n)) (Ok (i, m)) = sym e ∙ z in let y : ◌≡◌ {A = ℕ} 0 1 = cc in absurd (omega arith);
+    }
 
-    module _ {i n : ℕ} (e : r ≡ Row i n) where
+    module _ {i n : ℕ} (e : r ≡ Ok (i, n)) where
       gave : Gave (formed_truth ar T l) s₀ count i n s
       gave = x.row i n e
 
@@ -121,8 +129,8 @@ module _ {ar truths spans : List ℕ} {l : ℕ} (q : Asking ar truths spans l) {
       pub kept-place : h < length kept
       kept-place = omega (arith, k.places)
 
-      pub kept_new : KeptRan limit ar T (formed_truth ar T l) s₀ count (Row i n) s heads links index' (set kept h (l * slot_base + i))
-      kept_new = record { ran = ran-answer e x; keeps = λ j m z. let p : n ≡ m = cc in rw (← p) keeps }
+      pub kept_new : KeptRan limit ar T (formed_truth ar T l) s₀ count (Ok (i, n)) s heads links index' (set kept h (l * slot_base + i))
+      kept_new = record { ran = ran-answer e x; keeps = λ j m z. let y : ◌≡◌ {A = ℕ × ℕ} (i, n) (j, m) = cc in let p : n ≡ m = ap (λ (y : ℕ × ℕ). y.1) y in rw (← p) keeps }
         where
           older : Keeps ar T s n kept
           older = keeps-later (formed_truth ar T l) (steady-formed ar T l) gave k
@@ -168,30 +176,27 @@ step-formed m t f = fun_ext (λ rs. whole (m rs))
 
 module _ {ar truths spans : List ℕ} (lent : Lent ar truths spans) {count : ℕ} {task : Task} (t : Tasked ar count task) {plan index s₀ heads₀ links₀ : List ℕ} {limit : ℕ}
     (ready : Ready plan index limit s₀ heads₀ links₀ count) {kept : List ℕ} (k : Keeps ar (truths_of truths spans) s₀ count kept) where
-  pub row-leaf-kept : {v : ℕ} {f : Formed} {r : Stepped} {s heads links : List ℕ} → task ≡ Leaf v
+  pub row-leaf-kept : {v : ℕ} {f : Option (ℕ × ℕ)} {r : Result (ℕ × ℕ) (Refusal × ℕ)} {s heads links : List ℕ} → task ≡ Leaf v
       → Formation (leaf v) (add (leaf v) (diagrams_of s₀ count)) f s heads links → r ≡ told_as f
       → KeptRan limit ar (truths_of truths spans) (task_run (truth_at ar (truths_of truths spans)) s₀ task) s₀ count r s heads links index kept
   row-leaf-kept {v} e z q = kept-ran (task_run (truth_at ar (truths_of truths spans)) s₀ task) (rw e (steady-form (leaf v))) (leaf-told (truth_at ar (truths_of truths spans)) ready t e z q) k
 
   module _ {l high low : ℕ} (e : task ≡ Branch l high low) where
-    pub row-asking : Asking ar truths spans l
-    row-asking = record { lent = lent; label = (t.label l high low e).0 }
-
-    module _ {r₁ : Stepped} {s₁ heads₁ links₁ index₁ kept₁ : List ℕ}
+    module _ {r₁ : Result (ℕ × ℕ) (Refusal × ℕ)} {s₁ heads₁ links₁ index₁ kept₁ : List ℕ}
         (x : KeptRan limit ar (truths_of truths spans) (formed_truth ar (truths_of truths spans) l) s₀ count r₁ s₁ heads₁ links₁ index₁ kept₁) where
-      from-bind : {r : Stepped} {s heads links index' : List ℕ}
+      from-bind : {r : Result (ℕ × ℕ) (Refusal × ℕ)} {s heads links index' : List ℕ}
           → Ran limit (bind (formed_truth ar (truths_of truths spans) l) (λ y. row_step y (tree s₀ high) (tree s₀ low))) s₀ count r s heads links index'
           → Ran limit (task_run (truth_at ar (truths_of truths spans)) s₀ task) s₀ count r s heads links index'
       from-bind z = rw e (ran-cast (step-formed (truth_at ar (truths_of truths spans) l) (tree s₀ high) (tree s₀ low)) z)
 
-      pub row-stop : {w : Refusal} {n : ℕ} → r₁ ≡ Refused w n
+      pub row-stop : {w : Refusal} {n : ℕ} → r₁ ≡ Err (w, n)
           → KeptRan limit ar (truths_of truths spans) (task_run (truth_at ar (truths_of truths spans)) s₀ task) s₀ count r₁ s₁ heads₁ links₁ index₁ kept₁
       row-stop {w} {n} p = record {
         ran = from-bind (ran-answer (sym p) (ran-stop (formed_truth ar (truths_of truths spans) l) (λ y. row_step y (tree s₀ high) (tree s₀ low)) (ran-answer p x.ran)));
-        keeps = λ i m z. let a : Refused w n ≡ Row i m = sym p ∙ z in let y : ◌≡◌ {A = ℕ} 0 1 = cc in absurd (omega arith);
+        keeps = λ i m z. let a : ◌≡◌ {A = Result (ℕ × ℕ) (Refusal × ℕ)} (Err (w, n)) (Ok (i, m)) = sym p ∙ z in let y : ◌≡◌ {A = ℕ} 0 1 = cc in absurd (omega arith);
       }
 
-      module _ {test n : ℕ} (p : r₁ ≡ Row test n) where
+      module _ {test n : ℕ} (p : r₁ ≡ Ok (test, n)) where
         gave₁ : Gave (formed_truth ar (truths_of truths spans) l) s₀ count test n s₁
         gave₁ = x.ran.row test n p
 
@@ -205,7 +210,7 @@ module _ {ar truths spans : List ℕ} (lent : Lent ar truths spans) {count : ℕ
           low-there = omega (arith, gave₁.more, (t.label l high low e).2);
         }
 
-        pub row_done : {r : Stepped} {s heads links index' : List ℕ} → Ran limit (row_step (tree s₁ test) (tree s₁ high) (tree s₁ low)) s₁ n r s heads links index'
+        pub row_done : {r : Result (ℕ × ℕ) (Refusal × ℕ)} {s heads links index' : List ℕ} → Ran limit (row_step (tree s₁ test) (tree s₁ high) (tree s₁ low)) s₁ n r s heads links index'
             → KeptRan limit ar (truths_of truths spans) (task_run (truth_at ar (truths_of truths spans)) s₀ task) s₀ count r s heads links index' kept₁
         row_done {r} {s} {heads} {links} {index'} z = record {
           ran = from-bind (ran-bind (formed_truth ar (truths_of truths spans) l) (λ y. row_step y (tree s₀ high) (tree s₀ low)) gave₁

@@ -34,21 +34,18 @@ use Rattle.diagram.specs.RowLists.{row_tree}
 use Rattle.diagram.specs.RowLaws.{rows-kept, kept-index-is}
 use Rattle.plan.specs.Plan.{Clean}
 use Rattle.apply.specs.Formed.{add}
-use Rattle.store.specs.declared.Formed.{Formed}
-use Rattle.store.specs.declared.Formed.TheVariants.{Row as FormedRow, Full}
 use Rattle.store.specs.Space.{diagrams_of, Formation}
 use Rattle.regression.specs.Calls.{Run, bind, form}
 use Rattle.regression.specs.Step.{test_diagram, row_step}
 use Rattle.regression.specs.Regression.{result_of, row_result, row_results, last_of, over_rows}
 use Rattle.regression.proofs.RegressionLaws.{row-leaf, row-branch, results-none, results-cons, over-rows}
 use Rattle.regression.proofs.MovedLaws.{moved_to, moved-label}
-use Rattle.row_steps.specs.declared.Stepped.{Stepped}
-use Rattle.row_steps.specs.declared.Stepped.TheVariants.{Row, Refused}
 use Rattle.row_steps.specs.Running.{Space, Ready, Two, Gave, count_then, Ran, Testable}
 use Rattle.row_steps.specs.RunLaws.{formed-ran, full-ran, leaf-onto, row-known, full-known}
 use Rattle.regress.specs.declared.Task.{Task}
 use Rattle.regress.specs.declared.Task.TheVariants.{Leaf, Branch}
 use Rattle.regress.specs.Tasks.{task_at, Taskable, task_run, Tasked, replaced_by, Mapping, told_as}
+use Rattle.std.specs.Prelude.{Err, None, Ok, Option, Result, Some}
 
 -- `task_at`
 task-leaf : (ws numbers : List ℕ) (k : ℕ) → label_at ws k ≡ leaf_mark → task_at ws numbers k ≡ Leaf (high_at ws k)
@@ -211,21 +208,21 @@ module _ {T : ℕ → Run Diagram} {ar ws s₀ : List ℕ} {count : ℕ} {s numb
       pub going-tasked : Tasked ar n task
       going-tasked = rw t (tasked (flag (eqb (label_at ws k) leaf_mark)))
 
-      module _ {limit : ℕ} {r : Stepped} {s' heads' links' index' : List ℕ} (x : Ran limit (task_run T s task) s n r s' heads' links' index') where
+      module _ {limit : ℕ} {r : Result (ℕ × ℕ) (Refusal × ℕ)} {s' heads' links' index' : List ℕ} (x : Ran limit (task_run T s task) s n r s' heads' links' index') where
         run : Ran limit (task_run T s (task_at ws numbers k)) s n r s' heads' links' index'
         run = subst (λ (y : Task). Ran limit (task_run T s y) s n r s' heads' links' index') t x
 
-        pub going-stop : {w : Refusal} {c : ℕ} → r ≡ Refused w c → Ran limit (over_rows T (diagram_of ws)) s₀ count r s' heads' links' index'
+        pub going-stop : {w : Refusal} {c : ℕ} → r ≡ Err (w, c) → Ran limit (over_rows T (diagram_of ws)) s₀ count r s' heads' links' index'
         going-stop {w} {c} e = record {
           space = x.space;
           clean = x.clean;
-          row = λ i m q. let z : Refused w c ≡ Row i m = sym e ∙ q in let y : ◌≡◌ {A = ℕ} 0 1 = cc in absurd (omega arith);
+          row = λ i m q. let z : ◌≡◌ {A = Result (ℕ × ℕ) (Refusal × ℕ)} (Err (w, c)) (Ok (i, m)) = sym e ∙ q in let y : ◌≡◌ {A = ℕ} 0 1 = cc in absurd (omega arith);
           refusal = λ v m q y.
               ap (λ (m : Run Diagram). m (diagrams_of s₀ count)) (over-rows T (diagram_of ws))
               ∙ rw (going_next, run.refusal v m q y);
         }
 
-        module _ {i c : ℕ} (e : r ≡ Row i c) where
+        module _ {i c : ℕ} (e : r ≡ Ok (i, c)) where
           gave : Gave (task_run T s (task_at ws numbers k)) s n i c s'
           gave = run.row i c e
 
@@ -233,7 +230,7 @@ module _ {T : ℕ → Run Diagram} {ar ws s₀ : List ℕ} {count : ℕ} {s numb
           going-small = omega (arith, gave.there, row-space.holds.table.within)
             where
               row-space : Space s' heads' links' c
-              row-space = subst (λ (y : Stepped). Space s' heads' links' (count_then y)) e x.space
+              row-space = subst (λ (y : Result (ℕ × ℕ) (Refusal × ℕ)). Space s' heads' links' (count_then y)) e x.space
 
           pub going-place : k < length numbers
           going-place = omega (arith, g.places, valid.few)
@@ -266,11 +263,15 @@ module _ {T : ℕ → Run Diagram} {ar ws s₀ : List ℕ} {count : ℕ} {s numb
 
   -- all rows are done
   pub going_end : {limit : ℕ} {heads links index : List ℕ} → length ws / 3 ≤ k → Space s heads links n → Clean index
-      → Ran limit (over_rows T (diagram_of ws)) s₀ count (Row root n) s heads links index
+      → Ran limit (over_rows T (diagram_of ws)) s₀ count (Ok (root, n)) s heads links index
   going_end {limit} {heads} {links} {index} h z c = record {
     space = z;
     clean = c;
-    row = λ i m q. let a : root ≡ i = cc in let b : n ≡ m = cc in rw (← a, ← b) all;
+    row = λ i m q.
+        let y : ◌≡◌ {A = ℕ × ℕ} (root, n) (i, m) = cc in
+        let a : root ≡ i = ap (λ (y : ℕ × ℕ). y.0) y in
+        let b : n ≡ m = ap (λ (y : ℕ × ℕ). y.1) y in
+        rw (← a, ← b) all;
     refusal = λ w m q x. let y : ◌≡◌ {A = ℕ} 0 1 = cc in absurd (omega arith);
   }
     where
@@ -303,16 +304,16 @@ module _ {T : ℕ → Run Diagram} {ar ws s₀ : List ℕ} {count : ℕ} {s numb
       }
 
 -- a leaf's row
-pub leaf-told : (T : ℕ → Run Diagram) {ar : List ℕ} {plan index s heads links : List ℕ} {limit count v : ℕ} {task : Task} {f : Formed} {r : Stepped}
+pub leaf-told : (T : ℕ → Run Diagram) {ar : List ℕ} {plan index s heads links : List ℕ} {limit count v : ℕ} {task : Task} {f : Option (ℕ × ℕ)} {r : Result (ℕ × ℕ) (Refusal × ℕ)}
     {s' heads' links' : List ℕ}
     → Ready plan index limit s heads links count → Tasked ar count task → task ≡ Leaf v
     → Formation (leaf v) (add (leaf v) (diagrams_of s count)) f s' heads' links' → r ≡ told_as f → Ran limit (task_run T s task) s count r s' heads' links' index
 leaf-told T {ar} {plan} {index} {s} {heads} {links} {limit} {count} {v} {task} {f} {r} {s'} {heads'} {links'} ready t e z q = rw e (go f refl)
   where
-    go : (x : Formed) → f ≡ x → Ran limit (form (leaf v)) s count r s' heads' links' index
-    go (FormedRow i n) p = subst (λ (y : Stepped). Ran limit (form (leaf v)) s count y s' heads' links' index) (sym (q ∙ ap told_as p))
+    go : (x : Option (ℕ × ℕ)) → f ≡ x → Ran limit (form (leaf v)) s count r s' heads' links' index
+    go (Some (i, n)) p = subst (λ (y : Result (ℕ × ℕ) (Refusal × ℕ)). Ran limit (form (leaf v)) s count y s' heads' links' index) (sym (q ∙ ap told_as p))
         (formed-ran s count (leaf v) (t.value v e) ready.space.values ready.clean (row-known (leaf-onto s count z) p))
-    go Full p = subst (λ (y : Stepped). Ran limit (form (leaf v)) s count y s' heads' links' index) (sym (q ∙ ap told_as p))
+    go None p = subst (λ (y : Result (ℕ × ℕ) (Refusal × ℕ)). Ran limit (form (leaf v)) s count y s' heads' links' index) (sym (q ∙ ap told_as p))
         (full-ran s count (leaf v) (t.value v e) ready.space.values ready.clean (full-known (leaf-onto s count z) p))
 
 -- a replacement's row
@@ -328,18 +329,18 @@ module _ {ar map : List ℕ} (m : Mapping ar map) {count : ℕ} {task : Task} (t
     label = λ k z. label-below ar k.packed (moved-label ar (map_of map) l (moved_to ar m.arities (map_of map) m.keeps l (t.label l high low e).0) k (sym q ∙ z));
   }
 
-  pub branch-replaced : {limit : ℕ} {x : Test} {s : List ℕ} {r : Stepped} {s' heads' links' index' : List ℕ} → x ≡ moved ar (map_of map) l
+  pub branch-replaced : {limit : ℕ} {x : Test} {s : List ℕ} {r : Result (ℕ × ℕ) (Refusal × ℕ)} {s' heads' links' index' : List ℕ} → x ≡ moved ar (map_of map) l
       → Ran limit (row_step (test_diagram x) (tree s high) (tree s low)) s count r s' heads' links' index'
       → Ran limit (task_run (replaced_by ar map) s task) s count r s' heads' links' index'
   branch-replaced {limit} {x} {s} {r} {s'} {heads'} {links'} {index'} q z =
       rw e (subst (λ (y : Test). Ran limit (row_step (test_diagram y) (tree s high) (tree s low)) s count r s' heads' links' index') q z)
 
 -- the tables behind a step
-pub ready_on : {m : Run Diagram} {plan index s heads links : List ℕ} {limit count : ℕ} {r : Stepped} {plan' s' heads' links' index' : List ℕ}
+pub ready_on : {m : Run Diagram} {plan index s heads links : List ℕ} {limit count : ℕ} {r : Result (ℕ × ℕ) (Refusal × ℕ)} {plan' s' heads' links' index' : List ℕ}
     → Ready plan index limit s heads links count
-    → Ran limit m s count r s' heads' links' index' → length plan' ≡ length plan → {i c : ℕ} → r ≡ Row i c → Ready plan' index' limit s' heads' links' c
+    → Ran limit m s count r s' heads' links' index' → length plan' ≡ length plan → {i c : ℕ} → r ≡ Ok (i, c) → Ready plan' index' limit s' heads' links' c
 ready_on {m} {plan} {index} {s} {heads} {links} {limit} {count} {r} {plan'} {s'} {heads'} {links'} {index'} a x l {i} {c} e = record {
-  space = subst (λ (y : Stepped). Space s' heads' links' (count_then y)) e x.space;
+  space = subst (λ (y : Result (ℕ × ℕ) (Refusal × ℕ)). Space s' heads' links' (count_then y)) e x.space;
   clean = x.clean;
   words = omega (arith, a.words);
   most = a.most;

@@ -26,8 +26,6 @@ use Rattle.diagram.specs.Listing.{diagram_of}
 use Rattle.diagram.specs.Validity.{tree}
 use Rattle.diagram.specs.ListingValid.{listing-is-valid}
 use Rattle.state.proofs.ValueLaws.{Each-mono}
-use Rattle.store.specs.declared.Formed.{Formed}
-use Rattle.store.specs.declared.Formed.TheVariants.{Row as FormedRow, Full}
 use Rattle.store.specs.Space.{diagrams_of, Formation}
 use Rattle.regression.specs.Calls.{Run, bind, form}
 use Rattle.regression.proofs.CallLaws.{form-old, bind-refused}
@@ -38,12 +36,13 @@ use Rattle.regression.proofs.ResultLaws.{label-terms, argument-low, argument-hig
 use Rattle.regression.specs.RegressCall.{truth_count, truth_words, truths_of}
 use Rattle.regression.proofs.RegressCallLaws.{truths-none, truths-some, listings-at}
 use Rattle.regression.specs.Result.{AtMost}
-use Rattle.row_steps.specs.declared.Stepped.{Stepped}
 use Rattle.row_steps.specs.Running.{Ready, Ran, Testable}
 use Rattle.row_steps.specs.RunLaws.{there-mem, in-room, formed-ran, full-ran, row-known, full-known, one-most, ran-cast, ran-answer}
 use Rattle.truths.specs.TruthChecks.{has_truth}
 use Rattle.regress.specs.Tasks.{Mapping, told_as, used_places, Usable, Arguable, Argued}
 use Rattle.regress.specs.Keeping.{formed_truth, Asking}
+use Rattle.refusal.specs.declared.Refusal.{Refusal}
+use Rattle.std.specs.Prelude.{None, Option as StdOption, Result, Some}
 
 -- `argument_term`
 pub argument-is-low : (ts : List ℕ) {t : ℕ} → t < first_variable → t ≡ argument ts t
@@ -135,24 +134,24 @@ module _ {ar ws : List ℕ} {l : ℕ} (u : Usable ar ws l) where
     same_map t (equal h) = past t (omega arith)
     same_map t (above h) = past t (omega arith)
 
-    pub argued-ran : {limit : ℕ} {s₀ : List ℕ} {count : ℕ} {r : Stepped} {s heads links index : List ℕ}
+    pub argued-ran : {limit : ℕ} {s₀ : List ℕ} {count : ℕ} {r : Result (ℕ × ℕ) (Refusal × ℕ)} {s heads links index : List ℕ}
         → Ran limit (replacement ar (map_of map) (diagram_of ws)) s₀ count r s heads links index
         → Ran limit (replacement ar (argument Ts) (diagram_of ws)) s₀ count r s heads links index
     argued-ran x = ran-cast (ap (λ (σ : ℕ → ℕ). replacement ar σ (diagram_of ws)) (fun_ext (λ t. same_map t (cmp t term_end)))) x
 
 -- the answer of forming d, as that of a step
 pub formed-told : (d : Diagram) → AtMost highest_value d → {plan index s₀ heads₀ links₀ : List ℕ} {limit count : ℕ} → Ready plan index limit s₀ heads₀ links₀ count
-    → {f : Formed} {s heads links : List ℕ} → Formation d (onto d (diagrams_of s₀ count)) f s heads links → {r : Stepped} → r ≡ told_as f
+    → {f : StdOption (ℕ × ℕ)} {s heads links : List ℕ} → Formation d (onto d (diagrams_of s₀ count)) f s heads links → {r : Result (ℕ × ℕ) (Refusal × ℕ)} → r ≡ told_as f
     → Ran limit (form d) s₀ count r s heads links index
 formed-told d m {plan} {index} {s₀} {heads₀} {links₀} {limit} {count} ready {f} {s} {heads} {links} x {r} t =
-    subst (λ (y : Stepped). Ran limit (form d) s₀ count y s heads links index) (sym t) (go f refl)
+    subst (λ (y : Result (ℕ × ℕ) (Refusal × ℕ)). Ran limit (form d) s₀ count y s heads links index) (sym t) (go f refl)
   where
-    go : (g : Formed) → f ≡ g → Ran limit (form d) s₀ count (told_as f) s heads links index
-    go (FormedRow i n) e = rw e (formed-ran s₀ count d m ready.space.values ready.clean (row-known x e))
-    go Full e = rw e (full-ran s₀ count d m ready.space.values ready.clean (full-known x e))
+    go : (g : StdOption (ℕ × ℕ)) → f ≡ g → Ran limit (form d) s₀ count (told_as f) s heads links index
+    go (Some (i, n)) e = rw e (formed-ran s₀ count d m ready.space.values ready.clean (row-known x e))
+    go None e = rw e (full-ran s₀ count d m ready.space.values ready.clean (full-known x e))
 
 -- `form_truth`: T stands in the space once its rows are formed
-pub ran-formed : {limit : ℕ} {m : Run Diagram} {s₀ : List ℕ} {count : ℕ} {r : Stepped} {s heads links index : List ℕ} → Ran limit m s₀ count r s heads links index
+pub ran-formed : {limit : ℕ} {m : Run Diagram} {s₀ : List ℕ} {count : ℕ} {r : Result (ℕ × ℕ) (Refusal × ℕ)} {s heads links index : List ℕ} → Ran limit m s₀ count r s heads links index
     → Ran limit (bind m form) s₀ count r s heads links index
 ran-formed {limit} {m} {s₀} {count} {r} {s} {heads} {links} {index} x = record {
   space = x.space;
@@ -200,7 +199,7 @@ module _ {ar truths spans : List ℕ} {l : ℕ} (q : Asking ar truths spans l) w
       pub truth-usable : b ≡ true → {ws : List ℕ} → ws ≡ truth_words truths spans p → Usable ar ws l
       truth-usable h {ws} w = record { listing = rw w (has_some (sym told-b ∙ h)).1; label = q.label }
 
-      pub truth-used : b ≡ true → {ws : List ℕ} → ws ≡ truth_words truths spans p → {limit : ℕ} {s₀ : List ℕ} {count : ℕ} {r : Stepped} {s heads links index : List ℕ}
+      pub truth-used : b ≡ true → {ws : List ℕ} → ws ≡ truth_words truths spans p → {limit : ℕ} {s₀ : List ℕ} {count : ℕ} {r : Result (ℕ × ℕ) (Refusal × ℕ)} {s heads links index : List ℕ}
           → Ran limit (replacement ar (argument (terms_of ar (unpacked l))) (diagram_of ws)) s₀ count r s heads links index
           → Ran limit (formed_truth ar (truths_of truths spans) l) s₀ count r s heads links index
       unfolding truth_at truth_from
@@ -209,9 +208,9 @@ module _ {ar truths spans : List ℕ} {l : ℕ} (q : Asking ar truths spans l) w
           ran-formed (ran-cast (sym (ap (λ (o : Option Diagram). truth_from ar o l) z)) x)
 
       pub truth-stays : b ≡ false → {plan index s₀ heads₀ links₀ : List ℕ} {limit count : ℕ} → Ready plan index limit s₀ heads₀ links₀ count
-          → {f : Formed} {s heads links : List ℕ}
+          → {f : StdOption (ℕ × ℕ)} {s heads links : List ℕ}
           → Formation (test_diagram (Is (record { packed = l }))) (onto (test_diagram (Is (record { packed = l }))) (diagrams_of s₀ count)) f s heads links
-          → {r : Stepped} → r ≡ told_as f → Ran limit (formed_truth ar (truths_of truths spans) l) s₀ count r s heads links index
+          → {r : Result (ℕ × ℕ) (Refusal × ℕ)} → r ≡ told_as f → Ran limit (formed_truth ar (truths_of truths spans) l) s₀ count r s heads links index
       unfolding truth_at truth_from test_diagram
       truth-stays h {plan} {index} {s₀} {heads₀} {links₀} {limit} {count} ready {f} {s} {heads} {links} x {r} t =
           let z : truth_of (truths_of truths spans) (predicate_of l) ≡ none = rw (← e) (has_no (sym told-b ∙ h)) in

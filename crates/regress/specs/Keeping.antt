@@ -9,10 +9,10 @@ use Rattle.diagram.specs.Validity.{tree}
 use Rattle.store.specs.Space.{diagrams_of}
 use Rattle.regression.specs.Calls.{Run, bind, form}
 use Rattle.regression.specs.Regression.{Truths, truth_at}
-use Rattle.row_steps.specs.declared.Stepped.{Stepped}
-use Rattle.row_steps.specs.declared.Stepped.TheVariants.{Row}
 use Rattle.row_steps.specs.Running.{Ran}
 use Rattle.truths.specs.TruthChecks.{Lent}
+use Rattle.refusal.specs.declared.Refusal.{Refusal}
+use Rattle.std.specs.Prelude.{Ok, Result}
 
 -- T for the label l, its rows formed
 abbrev pub formed_truth : List ℕ → Truths → ℕ → Run Diagram
@@ -54,6 +54,6 @@ pub record Keeps (ar : List ℕ) (truths : Truths) (s : List ℕ) (count : ℕ) 
   pub each : (b : ℕ) → b < slots → is_label ar (slot_label kept b) ≡ true → Stands ar truths s count (slot_label kept b) (slot_row kept b)
 
 -- what running the step m with room for `limit` pairs ensures where T is kept
-pub record KeptRan (limit : ℕ) (ar : List ℕ) (truths : Truths) (m : Run Diagram) (s₀ : List ℕ) (count : ℕ) (r : Stepped) (s heads links index kept : List ℕ) : Type 0 where
+pub record KeptRan (limit : ℕ) (ar : List ℕ) (truths : Truths) (m : Run Diagram) (s₀ : List ℕ) (count : ℕ) (r : Result (ℕ × ℕ) (Refusal × ℕ)) (s heads links index kept : List ℕ) : Type 0 where
   pub ran : Ran limit m s₀ count r s heads links index
-  pub keeps : (i n : ℕ) → r ≡ Row i n → Keeps ar truths s n kept
+  pub keeps : (i n : ℕ) → r ≡ Ok (i, n) → Keeps ar truths s n kept

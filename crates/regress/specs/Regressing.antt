@@ -4,7 +4,7 @@ use Rattle.refusal.specs.declared.Refusal.{Refusal}
 use Rattle.refusal.specs.declared.Refusal.TheVariants.{Space}
 use Rattle.refusal.specs.Outcome.{Outcome, ok, refused}
 use Rattle.label.specs.Limits.{predicate_count}
-use Rattle.diagram.specs.Sizes.{result_words, space_words, space_rows, most_rows, most_pairs}
+use Rattle.diagram.specs.Sizes.{result_words, space_words, space_rows, most_rows}
 use Rattle.diagram.specs.Diagram.{Diagram}
 use Rattle.diagram.specs.Rows.{rows}
 use Rattle.diagram.specs.Inner.{Written}
@@ -12,12 +12,11 @@ use Rattle.diagram.specs.Words.{is_listing}
 use Rattle.diagram.specs.Validity.{tree}
 use Rattle.store.specs.Space.{diagrams_of, Holds}
 use Rattle.regression.specs.Calls.{Run}
-use Rattle.regression.specs.declared.Regressed.{Regressed}
 use Rattle.regression.specs.RegressCall.{are_listings, regressed_as, written_as}
-use Rattle.row_steps.specs.declared.Stepped.{Stepped}
-use Rattle.row_steps.specs.declared.Stepped.TheVariants.{Row, Refused as Stopped}
 use Rattle.row_steps.specs.Running.{count_then, Final}
 use Rattle.truths.specs.TruthChecks.{Lent}
+use Rattle.std.specs.Prelude.{Result}
+use Rattle.std.specs.Prelude.{Err, Ok}
 
 -- the checks 14 and 18 are passed; the checks 7 and 6 keep no step from running, so they are not asked for
 pub record Regressable (ar value truths spans out work : List ℕ) : Type 0 where
@@ -32,19 +31,14 @@ pub record Runnable (ar value truths spans work : List ℕ) : Type 0 where
   pub lent : Lent ar truths spans
   pub room : space_words ≤ length work
 
--- a plan with room for `limit` pairs
-pub record Roomy (limit : ℕ) (plan : List ℕ) : Type 0 where
-  pub words : limit * 5 ≤ length plan
-  pub most : limit ≤ most_pairs
-
 -- what running the step m in an empty space with room for `limit` pairs ensures: the rows then, their table by some heads and links, and the row or the refusal
 -- that the step gives; a refusal for pairs is the step's own only where there is room for all
-pub record Regresses (limit : ℕ) (m : Run Diagram) (r : Stepped) (s : List ℕ) : Type 0 where
+pub record Regresses (limit : ℕ) (m : Run Diagram) (r : Result (ℕ × ℕ) (Refusal × ℕ)) (s : List ℕ) : Type 0 where
   pub heads : List ℕ
   pub links : List ℕ
   pub holds : Holds s heads links (count_then r)
-  pub row : (i n : ℕ) → r ≡ Row i n → (i < n) × (m [] ≡ ok (tree s i, diagrams_of s n))
-  pub refusal : (w : Refusal) (n : ℕ) → r ≡ Stopped w n → Final limit w → m [] ≡ refused w
+  pub row : (i n : ℕ) → r ≡ Ok (i, n) → (i < n) × (m [] ≡ ok (tree s i, diagrams_of s n))
+  pub refusal : (w : Refusal) (n : ℕ) → r ≡ Err (w, n) → Final limit w → m [] ≡ refused w
 
 -- a row of a space of count rows, and room for the listing of the diagram that stands there
 pub record Listable (s : List ℕ) (count root : ℕ) (out : List ℕ) : Type 0 where
@@ -59,6 +53,6 @@ abbrev pub held : Diagram → Outcome Diagram
 held d = cond (ltb most_rows (length (rows d))) (refused Space) (ok d)
 
 -- the answer o, and the result buffer that was `before` and is `after`
-pub record RegressAnswered (o : Outcome Diagram) (r : Regressed) (before after : List ℕ) : Type 0 where
+pub record RegressAnswered (o : Outcome Diagram) (r : Result ℕ Refusal) (before after : List ℕ) : Type 0 where
   pub answer : r ≡ regressed_as o
   pub result : after ≡ written_as o before

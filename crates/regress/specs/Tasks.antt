@@ -12,15 +12,13 @@ use Rattle.diagram.specs.Sizes.{highest_value, space_rows}
 use Rattle.diagram.specs.Diagram.{Diagram, leaf}
 use Rattle.diagram.specs.Words.{label_at, high_at, low_at, is_listing}
 use Rattle.diagram.specs.Validity.{tree}
-use Rattle.store.specs.declared.Formed.{Formed}
-use Rattle.store.specs.declared.Formed.TheVariants.{Row as FormedRow, Full}
 use Rattle.regression.specs.Calls.{Run, pure, bind, form}
 use Rattle.regression.specs.Step.{test_diagram, row_step}
 use Rattle.regression.specs.Regression.{argument}
-use Rattle.row_steps.specs.declared.Stepped.{Stepped}
-use Rattle.row_steps.specs.declared.Stepped.TheVariants.{Row, Refused}
 use Rattle.regress.specs.declared.Task.{Task}
 use Rattle.regress.specs.declared.Task.TheVariants.{Leaf, Branch}
+use Rattle.refusal.specs.declared.Refusal.{Refusal}
+use Rattle.std.specs.Prelude.{Err, None, Ok, Option, Result, Some}
 
 -- row k of the listing ws, where `numbers` has the rows of the results of the rows before it
 unfoldable pub task_at : List ℕ → List ℕ → ℕ → Task
@@ -54,9 +52,9 @@ pub record Mapping (ar map : List ℕ) : Type 0 where
   pub keeps : (t : ℕ) → is_term t ≡ true → is_term (map_of map t) ≡ true
 
 -- the answer of forming, as that of a step
-abbrev pub told_as : Formed → Stepped
-told_as (FormedRow i n) = Row i n
-told_as Full = Refused Space space_rows
+abbrev pub told_as : Option (ℕ × ℕ) → Result (ℕ × ℕ) (Refusal × ℕ)
+told_as (Some (i, n)) = Ok (i, n)
+told_as None = Err (Space, space_rows)
 
 -- a truth diagram's listing, and the label that it is used at
 pub record Usable (ar ws : List ℕ) (l : ℕ) : Type 0 where

@@ -1,12 +1,11 @@
 // The regression call. What it is stands in regression.
 #![tactic(auto)]
 
-ghost use Rattle.std.specs.Prelude.{◌≡◌, true, ◌≤◌, ◌<◌, length};
+ghost use Rattle.std.specs.Prelude.{◌≡◌, true, ◌*◌, ◌≤◌, ◌<◌, length};
 ghost use Rattle.diagram.specs.Listing.{diagram_of};
 ghost use Rattle.regression.specs.RegressCall.{written_as, truths_of, regressed_as, regress_answer, regress_result};
 ghost use Rattle.label.specs.Limits.{most_places};
 ghost use Rattle.diagram.specs.Sizes.{most_pairs};
-ghost use Rattle.combine.specs.Calls.{few};
 ghost use Rattle.diagram.specs.Validity.{tree};
 ghost use Rattle.row_steps.specs.Running.{Ready, Ran};
 ghost use Rattle.diagram.specs.Words.{is_listing};
@@ -14,17 +13,12 @@ ghost use Rattle.label.specs.Inner.{map_of};
 ghost use Rattle.label.specs.Labels.{terms_of, unpacked};
 ghost use Rattle.regression.specs.Regression.{argument, replacement, truth_at, regression, regressed};
 ghost use Rattle.regress.specs.Tasks.{task_at, Taskable, task_run, Tasked, replaced_by, Mapping, told_as, used_places, Usable, Arguable, Argued};
-ghost use Rattle.regress.specs.Regressing.{Regressable, Runnable, Roomy, Regresses, Listable, held, RegressAnswered};
+ghost use Rattle.regress.specs.Regressing.{Regressable, Runnable, Regresses, Listable, held, RegressAnswered};
 ghost use Rattle.regress.specs.Keeping.{formed_truth, Asking, slots, Keeps, KeptRan};
 ghost use Rattle.truths.specs.TruthChecks.{Lent};
 
 use label::{Label, Term, Test};
 use refusal::Refusal;
-use regression::Regressed;
-use row_steps::Stepped;
-use store::Formed;
-use truths::Verdict;
-use write::Listed;
 
 // What a row of a lent listing asks for: a leaf with its value, or the row step of its label with the rows of its children's results.
 #[derive(Clone, Copy)]
@@ -50,13 +44,10 @@ fn task_at(words: &[u64], numbers: &[u16], k: usize) -> Task
 }
 
 // The answer of forming, as that of a step.
-fn told(f: Formed) -> Stepped
+fn told(f: Option<(usize, usize)>) -> Result<(usize, usize), (Refusal, usize)>
     ensures { result ≡ told_as f }
 {
-    match f {
-        Formed::Row(i, n) => Stepped::Row(i, n),
-        Formed::Full => Stepped::Refused(Refusal::Space, diagram::SPACE_ROWS),
-    }
+    f.ok_or((Refusal::Space, diagram::SPACE_ROWS))
 }
 
 // The result of a row of a replacement.
@@ -71,7 +62,7 @@ fn replaced_row(
     heads: &mut [u16],
     links: &mut [u16],
     count: usize,
-) -> Stepped
+) -> Result<(usize, usize), (Refusal, usize)>
     requires mapping { Mapping arities.now map.now }
     requires tasked { Tasked arities.now count task }
     requires ready { Ready plan.old index.old limit space.old heads.old links.old count }
@@ -100,7 +91,7 @@ fn replace(
     heads: &mut [u16],
     links: &mut [u16],
     count: usize,
-) -> Stepped
+) -> Result<(usize, usize), (Refusal, usize)>
     requires words_value { is_listing arities.now words.now ≡ true }
     requires mapping { Mapping arities.now map.now }
     requires ready { Ready plan.old index.old limit space.old heads.old links.old count }
@@ -110,21 +101,14 @@ fn replace(
     let m = words.len() / 3;
     let mut n = count;
     let mut root = 0;
-    let mut k = 0;
-    while k < m {
+    for k in 0..m {
         let task = task_at(words, &numbers, k);
-        let r = replaced_row(
+        (root, n) = replaced_row(
             arities, map, task, plan, index, limit, space, heads, links, n,
-        );
-        let Stepped::Row(i, c) = r else {
-            return r;
-        };
-        numbers[k] = i as u16;
-        n = c;
-        root = i;
-        k += 1;
+        )?;
+        numbers[k] = root as u16;
     }
-    Stepped::Row(root, n)
+    Ok((root, n))
 }
 
 // What replaces the term t, where the arguments of a predicate of arity n become the terms of a label.
@@ -149,10 +133,8 @@ fn argument_map(arities: &[u64], label: u64, map: &mut [u64])
 {
     let p = Label { packed: label }.predicate() as usize;
     let n = arities[p];
-    let mut t = 0u64;
-    while t < Term::END {
+    for t in 0..Term::END {
         map[t as usize] = argument_term(label, n, t);
-        t += 1;
     }
 }
 
@@ -168,7 +150,7 @@ fn replace_arguments(
     heads: &mut [u16],
     links: &mut [u16],
     count: usize,
-) -> Stepped
+) -> Result<(usize, usize), (Refusal, usize)>
     requires usable { Usable arities.now words.now label }
     requires ready { Ready plan.old index.old limit space.old heads.old links.old count }
     ensures { Ran limit (replacement arities.now (argument (terms_of arities.now (unpacked label))) (diagram_of words.now)) space.old count result space.new heads.new links.new index.new }
@@ -193,7 +175,7 @@ fn form_truth(
     heads: &mut [u16],
     links: &mut [u16],
     count: usize,
-) -> Stepped
+) -> Result<(usize, usize), (Refusal, usize)>
     requires asking { Asking arities.now truths.now spans.now label }
     requires ready { Ready plan.old index.old limit space.old heads.old links.old count }
     ensures { Ran limit (formed_truth arities.now (truths_of truths.now spans.now) label) space.old count result space.new heads.new links.new index.new }
@@ -245,7 +227,7 @@ fn kept_truth(
     heads: &mut [u16],
     links: &mut [u16],
     count: usize,
-) -> Stepped
+) -> Result<(usize, usize), (Refusal, usize)>
     requires asking { Asking arities.now truths.now spans.now label }
     requires ready { Ready plan.old index.old limit space.old heads.old links.old count }
     requires keeps { Keeps arities.now (truths_of truths.now spans.now) space.old count kept.old }
@@ -254,17 +236,13 @@ fn kept_truth(
     let h = slot(label);
     let e = kept[h];
     if e / SLOT_BASE == label {
-        let i = (e % SLOT_BASE) as usize;
-        return Stepped::Row(i, count);
+        return Ok(((e % SLOT_BASE) as usize, count));
     }
-    let r = form_truth(
+    let (i, n) = form_truth(
         arities, truths, spans, label, plan, index, limit, space, heads, links, count,
-    );
-    let Stepped::Row(i, n) = r else {
-        return r;
-    };
+    )?;
     kept[h] = label * SLOT_BASE + i as u64;
-    Stepped::Row(i, n)
+    Ok((i, n))
 }
 
 // The result of a row of the value listing.
@@ -281,7 +259,7 @@ fn regressed_row(
     heads: &mut [u16],
     links: &mut [u16],
     count: usize,
-) -> Stepped
+) -> Result<(usize, usize), (Refusal, usize)>
     requires lent { Lent arities.now truths.now spans.now }
     requires tasked { Tasked arities.now count task }
     requires ready { Ready plan.old index.old limit space.old heads.old links.old count }
@@ -291,12 +269,9 @@ fn regressed_row(
     match task {
         Task::Leaf(v) => told(store::leaf(space, heads, links, count, v)),
         Task::Branch(l, high, low) => {
-            let r = kept_truth(
+            let (test, n) = kept_truth(
                 arities, truths, spans, l, kept, plan, index, limit, space, heads, links, count,
-            );
-            let Stepped::Row(test, n) = r else {
-                return r;
-            };
+            )?;
             row_steps::row_step(plan, index, limit, space, heads, links, n, test, high, low)
         }
     }
@@ -314,7 +289,7 @@ fn regress_rows(
     space: &mut [u64],
     heads: &mut [u16],
     links: &mut [u16],
-) -> Stepped
+) -> Result<(usize, usize), (Refusal, usize)>
     requires value_value { is_listing arities.now value.now ≡ true }
     requires lent { Lent arities.now truths.now spans.now }
     requires ready { Ready plan.old index.old limit space.old heads.old links.old 0 }
@@ -325,72 +300,47 @@ fn regress_rows(
     let m = value.len() / 3;
     let mut n = 0;
     let mut root = 0;
-    let mut k = 0;
-    while k < m {
+    for k in 0..m {
         let task = task_at(value, &numbers, k);
-        let r = regressed_row(
+        (root, n) = regressed_row(
             arities, truths, spans, task, &mut kept, plan, index, limit, space, heads, links, n,
-        );
-        let Stepped::Row(i, c) = r else {
-            return r;
-        };
-        numbers[k] = i as u16;
-        n = c;
-        root = i;
-        k += 1;
+        )?;
+        numbers[k] = root as u16;
     }
-    Stepped::Row(root, n)
+    Ok((root, n))
 }
 
 // Writes the listing of the row `root`, unless its rows are too many.
-fn list_result(space: &[u64], count: usize, root: usize, out: &mut [u64]) -> Regressed
+fn list_result(space: &[u64], count: usize, root: usize, out: &mut [u64]) -> Result<usize, Refusal>
     requires { Listable space.now count root out.old }
     ensures { RegressAnswered (held (tree space.now root)) result out.old out.new }
 {
     let mut marks = [0u16; diagram::SPACE_ROWS];
     let mut order = [0u16; diagram::SPACE_ROWS];
-    let r = write::write(space, count, root, &mut marks, &mut order, out);
-    match r {
-        Listed::Rows(m) => Regressed::Done(m),
-        Listed::TooMany => Regressed::Refused(Refusal::Space),
-    }
+    write::write(space, count, root, &mut marks, &mut order, out).ok_or(Refusal::Space)
 }
 
-// The regression of a value listing in an empty space, the plan having room for `limit` pairs.
-fn regress_in(
+// The regression of a value listing in an empty space, with room for `limit` pairs in a plan of that many words.
+fn regress_in<const WORDS: usize>(
     arities: &[u64],
     value: &[u64],
     truths: &[u64],
     spans: &[u64],
-    plan: &mut [u64],
     limit: usize,
     work: &mut [u64],
-) -> Stepped
+) -> Result<(usize, usize), (Refusal, usize)>
     requires runnable { Runnable arities.now value.now truths.now spans.now work.old }
-    requires roomy { Roomy limit plan.old }
+    requires room { limit * 5 ≤ WORDS }
+    requires words_le_most { WORDS ≤ most_pairs * 5 }
     ensures { Regresses limit (regression arities.now (truths_of truths.now spans.now) (diagram_of value.now)) result work.new }
 {
+    let mut plan = [0u64; WORDS];
     let mut index = [0u16; plan::BUCKETS];
     let mut heads = [0u16; table::BUCKETS];
     let mut links = [0u16; diagram::SPACE_ROWS];
     regress_rows(
-        arities, value, truths, spans, plan, &mut index, limit, work, &mut heads, &mut links,
+        arities, value, truths, spans, &mut plan, &mut index, limit, work, &mut heads, &mut links,
     )
-}
-
-// The same, with room for few pairs.
-fn regress_few(
-    arities: &[u64],
-    value: &[u64],
-    truths: &[u64],
-    spans: &[u64],
-    work: &mut [u64],
-) -> Stepped
-    requires { Runnable arities.now value.now truths.now spans.now work.old }
-    ensures { Regresses few (regression arities.now (truths_of truths.now spans.now) (diagram_of value.now)) result work.new }
-{
-    let mut plan = [0u64; combine::FEW_WORDS];
-    regress_in(arities, value, truths, spans, &mut plan, combine::FEW, work)
 }
 
 // The same, with room for all pairs that a step may have.
@@ -400,20 +350,11 @@ fn regress_many(
     truths: &[u64],
     spans: &[u64],
     work: &mut [u64],
-) -> Stepped
+) -> Result<(usize, usize), (Refusal, usize)>
     requires { Runnable arities.now value.now truths.now spans.now work.old }
     ensures { Regresses most_pairs (regression arities.now (truths_of truths.now spans.now) (diagram_of value.now)) result work.new }
 {
-    let mut plan = [0u64; combine::PLAN_WORDS];
-    regress_in(
-        arities,
-        value,
-        truths,
-        spans,
-        &mut plan,
-        diagram::PAIRS,
-        work,
-    )
+    regress_in::<{ combine::PLAN_WORDS }>(arities, value, truths, spans, diagram::PAIRS, work)
 }
 
 // Values of more rows are run with room for all pairs at once: they mostly have a step of more than few.
@@ -426,14 +367,14 @@ fn regress_space(
     truths: &[u64],
     spans: &[u64],
     work: &mut [u64],
-) -> Stepped
+) -> Result<(usize, usize), (Refusal, usize)>
     requires { Runnable arities.now value.now truths.now spans.now work.old }
     ensures { Regresses most_pairs (regression arities.now (truths_of truths.now spans.now) (diagram_of value.now)) result work.new }
 {
     if value.len() / 3 > FEW_ROWS {
         return regress_many(arities, value, truths, spans, work);
     }
-    let r = regress_few(arities, value, truths, spans, work);
+    let r = regress_in::<{ combine::FEW_WORDS }>(arities, value, truths, spans, combine::FEW, work);
     if row_steps::is_crowded(r) {
         return regress_many(arities, value, truths, spans, work);
     }
@@ -448,15 +389,15 @@ pub fn regress_checked(
     spans: &[u64],
     out: &mut [u64],
     work: &mut [u64],
-) -> Regressed
+) -> Result<usize, Refusal>
     requires { Regressable arities.now value.now truths.now spans.now out.old work.old }
     ensures value { result ≡ regressed_as (regressed arities.now (truths_of truths.now spans.now) (diagram_of value.now)) }
     ensures out_after { out.new ≡ written_as (regressed arities.now (truths_of truths.now spans.now) (diagram_of value.now)) out.old }
 {
     let r = regress_space(arities, value, truths, spans, work);
     match r {
-        Stepped::Row(root, n) => list_result(work, n, root, out),
-        Stepped::Refused(w, _) => Regressed::Refused(w),
+        Ok((root, n)) => list_result(work, n, root, out),
+        Err((w, _)) => Err(w),
     }
 }
 
@@ -470,25 +411,22 @@ pub fn regress(
     spans: &[u64],
     out: &mut [u64],
     work: &mut [u64],
-) -> Regressed
+) -> Result<usize, Refusal>
     ensures value { result ≡ regress_answer arities.now value.now truths.now spans.now (length out.old) (length work.old) }
     ensures out_after { out.new ≡ regress_result arities.now value.now truths.now spans.now (length work.old) out.old }
 {
     if !listing::check(arities, value) {
-        return Regressed::Refused(Refusal::Listing);
+        return Err(Refusal::Listing);
     }
     if !truths::are_listed(arities, truths, spans) {
-        return Regressed::Refused(Refusal::Listing);
+        return Err(Refusal::Listing);
     }
     if out.len() < diagram::RESULT_WORDS {
-        return Regressed::Refused(Refusal::Buffer);
+        return Err(Refusal::Buffer);
     }
     if work.len() < diagram::SPACE_WORDS {
-        return Regressed::Refused(Refusal::Buffer);
+        return Err(Refusal::Buffer);
     }
-    let v = truths::judge_all(arities, truths, spans);
-    match v {
-        Verdict::Passed => regress_checked(arities, value, truths, spans, out, work),
-        Verdict::Refused(w) => Regressed::Refused(w),
-    }
+    truths::judge_all(arities, truths, spans)?;
+    regress_checked(arities, value, truths, spans, out, work)
 }

@@ -32,12 +32,12 @@ use Rattle.minimum.specs.Number.{Number}
 use Rattle.minimum.specs.Inner.{Room}
 use Rattle.minimum.proofs.OccurLaws.{occur-terms}
 use Rattle.minimum.proofs.FreedLaws.{number-freed}
-use Rattle.regression.specs.declared.Freed.TheVariants.{Refused}
 use Rattle.regression.specs.Parameters.{Within, Labels}
 use Rattle.regression.proofs.ResultLaws.{label-terms}
 use Rattle.regression.proofs.FreeingLaws.{within-freed}
 use Rattle.regression.specs.RegressCall.{any_occurs, freed_outcome, free_own, free_outcome, free_answer, free_result}
 use Rattle.regression.proofs.RegressCallLaws.{any-quiet, quiet-any}
+use Rattle.std.specs.Prelude.{Err}
 
 -- the terms of a label, place by place
 take-each : (P : ℕ → Type 0) (n : ℕ) (ts : List ℕ) → Each P (take n ts) → (k : ℕ) → k < n → k < length ts → P (get_or ts k 0)
@@ -209,7 +209,7 @@ pub freed-within : (ar : List ℕ) (count : ℕ) (d r : Diagram) → IsFreed ar 
 freed-within ar count d r f w = rw f.means (within-freed count (let h = f.few in omega arith) (meaning ar d) w)
 
 pub free-refused : (ar words : List ℕ) (count out_length work_length : ℕ) (r : Refusal) → free_outcome ar words count out_length work_length ≡ refused r
-    → free_answer ar words count out_length work_length ≡ Refused r
+    → free_answer ar words count out_length work_length ≡ Err r
 unfolding free_answer
 free-refused ar words count out_length work_length r e = rw e
 

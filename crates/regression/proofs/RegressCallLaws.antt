@@ -19,7 +19,6 @@ use Rattle.diagram.specs.Listing.{diagram_of}
 use Rattle.diagram.specs.Listings.{is-listing-good}
 use Rattle.diagram.specs.Variables.{occurs}
 use Rattle.apply.proofs.GoodLaws.{fine-every}
-use Rattle.regression.specs.declared.Regressed.TheVariants.{Refused}
 use Rattle.regression.specs.Regression.{Truths, regressed}
 use Rattle.regression.specs.Result.{AtMost}
 use Rattle.regression.specs.Parameters.{GoodTruth, GoodTruths}
@@ -27,6 +26,7 @@ use Rattle.regression.specs.Tells.{Tells}
 use Rattle.regression.proofs.TellsLaws.{regressed-tells}
 use Rattle.regression.specs.RegressCall.{truth_count, truth_words, truths_of, are_listings, leaf_above, any_occurs}
 use Rattle.regression.specs.RegressCall.{unbound_variable, check_truth, check_truths, regress_outcome, regress_answer, regress_result}
+use Rattle.std.specs.Prelude.{Err}
 
 -- the laws of `truths_of`, `are_listings`, `leaf_above`, `any_occurs` and `check_truths`: nothing else unfolds them
 pub truths-none : (truths spans : List ℕ) (p : ℕ) → truth_count spans p ≡ 0 → truths_of truths spans p ≡ none
@@ -202,7 +202,7 @@ module _ (ar value truths spans : List ℕ) (out_length work_length : ℕ) where
       regressed-tells ar (truths_of truths spans) (diagram_of value) (truths-passed ar truths spans (not-false _ l) pass) (is-listing-good ar value (not-false _ v))))))
 
 pub regress-refused : (ar value truths spans : List ℕ) (out_length work_length : ℕ) (r : Refusal) → regress_outcome ar value truths spans out_length work_length ≡ refused r
-    → regress_answer ar value truths spans out_length work_length ≡ Refused r
+    → regress_answer ar value truths spans out_length work_length ≡ Err r
 unfolding regress_answer
 regress-refused ar value truths spans out_length work_length r e = rw e
 

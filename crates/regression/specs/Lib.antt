@@ -32,9 +32,9 @@
 --   truth_count, truth_words, truths_of == lent truth diagrams: words one after another, and where each begins
 --   are_listings, leaf_above, any_occurs, unbound_variable == the parts of the checks 14, 7, 6; a variable that is no argument, or a minimum variable, is 6
 --   check_truth, check_truths, regress_outcome == 7, then 6, diagram by diagram; the call: 14, 18, 7, 6, then its own
---   Regressed, regressed_as, written_as, regress_answer, regress_result == the answer, and the result buffer then
+--   regressed_as, written_as, regress_answer, regress_result == the answer, and the result buffer then
 --   freed_outcome, free_own, free_outcome == freeing, which leaves minimum variables: 8; 6, then 8; the call: 14, 18, 4, then these
---   Freed, freed_as, free_answer, free_result == the answer, and the result buffer then
+--   freed_as, free_answer, free_result == the answer, and the result buffer then
 --
 -- Theorems
 --   regressed-value: the regressed diagram's leaf in a state is the old one's leaf in the next state

@@ -11,11 +11,9 @@ use Rattle.diagram.specs.Words.{is_listing}
 use Rattle.diagram.specs.Listing.{listing, diagram_of}
 use Rattle.diagram.specs.Variables.{occurs}
 use Rattle.rename.specs.Freeing.{freed}
-use Rattle.regression.specs.declared.Regressed.{Regressed}
-use Rattle.regression.specs.declared.Regressed.TheVariants.{Done, Refused}
-use Rattle.regression.specs.declared.Freed.{Freed}
-use Rattle.regression.specs.declared.Freed.TheVariants.{Done as FreedDone, Refused as FreedRefused}
 use Rattle.regression.specs.Regression.{Truths, regressed}
+use Rattle.refusal.specs.declared.Refusal.{Refusal}
+use Rattle.std.specs.Prelude.{Err, Ok, Result}
 
 -- the lent truth diagrams: their words one after the other, and for predicate p two words of `spans`, where its listing begins and how many words it has.
 -- No words: no truth diagram. Equality stays, so the words for predicate 0 are not read.
@@ -74,16 +72,16 @@ regress_outcome ar value truths spans out_length work_length =
     (check_truths ar (truths_of truths spans) 1 (predicate_count - 1)
     (regressed ar (truths_of truths spans) (diagram_of value)))))
 
-abbrev pub regressed_as : Outcome Diagram → Regressed
-regressed_as (ok d) = Done (length (rows d))
-regressed_as (refused r) = Refused r
+abbrev pub regressed_as : Outcome Diagram → Result ℕ Refusal
+regressed_as (ok d) = Ok (length (rows d))
+regressed_as (refused r) = Err r
 
 -- the result buffer after a call: words behind a result stay, and a refused call changes none
 abbrev pub written_as : Outcome Diagram → List ℕ → List ℕ
 written_as (ok d) out = listing d ++ drop (length (listing d)) out
 written_as (refused r) out = out
 
-unfoldable pub regress_answer : List ℕ → List ℕ → List ℕ → List ℕ → ℕ → ℕ → Regressed
+unfoldable pub regress_answer : List ℕ → List ℕ → List ℕ → List ℕ → ℕ → ℕ → Result ℕ Refusal
 unfolding regress_outcome rows
 regress_answer ar value truths spans out_length work_length = regressed_as (regress_outcome ar value truths spans out_length work_length)
 
@@ -112,11 +110,11 @@ free_outcome ar words count out_length work_length =
     (cond (ltb parameter_count count) (refused Range)
     (free_own ar words count)))
 
-abbrev pub freed_as : Outcome Diagram → Freed
-freed_as (ok d) = FreedDone (length (rows d))
-freed_as (refused r) = FreedRefused r
+abbrev pub freed_as : Outcome Diagram → Result ℕ Refusal
+freed_as (ok d) = Ok (length (rows d))
+freed_as (refused r) = Err r
 
-unfoldable pub free_answer : List ℕ → List ℕ → ℕ → ℕ → ℕ → Freed
+unfoldable pub free_answer : List ℕ → List ℕ → ℕ → ℕ → ℕ → Result ℕ Refusal
 unfolding free_outcome rows
 free_answer ar words count out_length work_length = freed_as (free_outcome ar words count out_length work_length)
 

@@ -1,18 +1,2 @@
-// What regression and freeing answer. What they are stands in specs/.
+// Regression and freeing of parameters: what they are stands in specs/. Either answers the result's rows, or why it is refused.
 #![tactic(auto)]
-
-use refusal::Refusal;
-
-// What a regression answers: the result's rows, or why it is refused.
-#[derive(Clone, Copy)]
-pub enum Regressed {
-    Done(usize),
-    Refused(Refusal),
-}
-
-// What freeing answers: the result's rows, or why it is refused.
-#[derive(Clone, Copy)]
-pub enum Freed {
-    Done(usize),
-    Refused(Refusal),
-}

@@ -5,7 +5,7 @@ use mathlib.Core.Bool.{true}
 use mathlib.Core.List.{List, [], ◌∷◌, ◌++◌, append_assoc}
 use Prim.Native.Nat.{ℕ, zero, suc, ◌+◌, ◌*◌, ◌/◌, ◌≤◌, ◌<◌}
 use native.Mathlib.Omega.{arith}
-use lib.ListN.{length, get_or, set, take, drop, length-set}
+use lib.ListN.{length, get_or, set, take, drop}
 use lib.Seq.{drop-cons, set_at, take-suc, length-take-le, take_all}
 use lib.Dec.{eqb}
 use borrow.Author.Tests.{eqb-true, eq-eqb, ne_eqb}
@@ -59,9 +59,6 @@ copy-next new old out n v h k e p =
     rw (take-suc new n 0 h)
     (ap (λ m. set m n v) x ∙ set_at (take n new) (get_or old n 0) (drop (suc n) old) v n (length-take-le n new (omega arith))
     ∙ ap (λ w. take n new ++ (w ∷ drop (suc n) old)) e ∙ sym (append_assoc (take n new) (get_or new n 0 ∷ []) (drop (suc n) old)))
-
-pub row-length : (out : List ℕ) {n : ℕ} (i j k x y z : ℕ) → length out ≡ n → length (set (set (set out i x) j y) k z) ≡ n
-row-length out {n} i j k x y z e = length-set (set (set out i x) j y) k z ∙ length-set (set out i x) j y ∙ length-set out i x ∙ e
 
 -- relabel_rows: the first k rows are written
 pub record Renaming (ar ws map old out : List ℕ) (k : ℕ) : Type 0 where

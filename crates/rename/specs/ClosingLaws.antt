@@ -12,7 +12,7 @@ use Rattle.label.specs.Renamings.{rank, renamed, numbering}
 use Rattle.label.proofs.RenamingLaws.{rank_below, numbering-low, numbering-variable, numbering-minimum, numbering-increasing}
 use Rattle.diagram.specs.Diagram.{Diagram}
 use Rattle.diagram.specs.Rows.{rows}
-use Rattle.diagram.specs.Listing.{listing, Fine, Good}
+use Rattle.diagram.specs.Listing.{Fine, Good}
 use Rattle.diagram.specs.Variables.{occurs, occurring, variables, minimums, closed_from, closed, after}
 use Rattle.rename.specs.Inner.{Named, KindsFit}
 use Rattle.rename.specs.RelabelLaws.{labels-weaken, relabel-same}

@@ -17,12 +17,10 @@ pub fn close_map(used: &[u64], first: u64, minimum: u64, map: &mut [u64])
     requires { Closable used.now first minimum map.old }
     ensures { map.new ≡ tabled (close_at used.now first minimum) term_end ++ drop term_end map.old }
 {
-    let mut t = 0u64;
     let mut next = first;
-    while t < Term::END {
+    for t in 0..Term::END {
         map[t as usize] = close_term(used, first, minimum, t, next);
         next = number_after(used, first, minimum, t, next);
-        t += 1;
     }
 }
 
@@ -32,12 +30,12 @@ fn close_term(used: &[u64], first: u64, minimum: u64, t: u64, next: u64) -> u64
     ensures { result ≡ close_at used.now first minimum t }
 {
     if t < Term::FIRST_VARIABLE {
-        return t;
+        t
+    } else if used[t as usize] == 0 {
+        0
+    } else {
+        next
     }
-    if used[t as usize] == 0 {
-        return 0;
-    }
-    next
 }
 
 // The number of the next used variable behind the term t: the minimum variables have numbers of their own.
@@ -62,10 +60,8 @@ pub fn free_map(count: u64, map: &mut [u64])
     requires { Countable count map.old }
     ensures { map.new ≡ tabled (freeing count) term_end ++ drop term_end map.old }
 {
-    let mut t = 0u64;
-    while t < Term::END {
+    for t in 0..Term::END {
         map[t as usize] = free_term(count, t);
-        t += 1;
     }
 }
 
@@ -95,13 +91,10 @@ pub fn relabel_rows(arities: &[u64], words: &[u64], map: &[u64], out: &mut [u64]
     requires { Renamable arities.now words.now map.now out.old }
     ensures { out.new ≡ relabelled (renamed arities.now (map_of map.now)) words.now ++ drop (length words.now) out.old }
 {
-    let n = words.len() / 3;
-    let mut k = 0usize;
-    while k < n {
+    for k in 0..words.len() / 3 {
         out[k * 3] = relabel_word(arities, map, words[k * 3]);
         out[k * 3 + 1] = words[k * 3 + 1];
         out[k * 3 + 2] = words[k * 3 + 2];
-        k += 1;
     }
 }
 
@@ -111,9 +104,8 @@ fn relabel_word(arities: &[u64], map: &[u64], x: u64) -> u64
     ensures { result ≡ labelled (renamed arities.now (map_of map.now)) x }
 {
     if x == Label::LEAF {
-        return x;
+        x
+    } else {
+        Label { packed: x }.renamed(arities, map).packed
     }
-    let l = Label { packed: x };
-    let r = l.renamed(arities, map);
-    r.packed
 }

@@ -13,7 +13,6 @@ use Rattle.diagram.specs.Diagram.{Diagram}
 use Rattle.diagram.specs.Words.{is_listing}
 use Rattle.diagram.specs.Listing.{listing, diagram_of}
 use Rattle.diagram.specs.Listings.{is-listing-diagram}
-use Rattle.state.specs.declared.Valued.TheVariants.{Value, Refused as Unvalued}
 use Rattle.state.specs.State.{State, Good, meaning}
 use Rattle.state.specs.Lent.{fact_count, state_of, most_facts}
 use Rattle.elimination.specs.Answer.{is_too_large}
@@ -31,18 +30,18 @@ use Rattle.minimum.specs.Number.{number}
 use Rattle.valuing.specs.Walks.{bound_number, bound_answer}
 use Rattle.valuing.specs.WalkLaws.{bound-below}
 use Rattle.next_facts.specs.NextCall.{after_at, Moving}
-use Rattle.replay_step.specs.declared.Stepped.{Stepped}
-use Rattle.replay_step.specs.declared.Stepped.TheVariants.{Done, Refused}
 use Rattle.replay_step.specs.Stepped.{lent_replay, lent_did, lent_step, StepTask, Steps}
 use Rattle.replay_step.specs.Inside.{WeighingAt, reward_before, both_added, rewards_met, tallied_as, told_as, moved_as, Moves}
 use Rattle.replay_step.proofs.WeightLaws.{weight-few, weight-plain, weight-number}
+use Rattle.refusal.specs.declared.Refusal.{Refusal}
+use Rattle.std.specs.Prelude.{Err, Ok, Result}
 
 -- ===== The checks, in their order =====
 
 -- an answer as an outcome: F are the facts of the next state
-outcome_of : ℕ → List ℕ → List ℕ → Stepped → Outcome Replay
-outcome_of n constants F (Done f c t) = ok (lent_replay n constants F c t)
-outcome_of n constants F (Refused e) = refused e
+outcome_of : ℕ → List ℕ → List ℕ → Result (ℕ × ℕ × ℕ) Refusal → Outcome Replay
+outcome_of n constants F (Ok (f, c, t)) = ok (lent_replay n constants F c t)
+outcome_of n constants F (Err e) = refused e
 
 -- 22, 15 and 23, or the line counted
 checks : Bool → Bool → Replay → Outcome Replay
@@ -55,14 +54,14 @@ module _ (n : ℕ) (constants F : List ℕ) (f count total : ℕ) where
   unfolding outcome_of tallied_as
   tally-outcome met = go (ltb highest_value (suc count) || ltb highest_value (total + met))
     where
-      go : (b : Bool) → outcome_of n constants F (cond b (Refused Tally) (Done f (suc count) (total + met)))
+      go : (b : Bool) → outcome_of n constants F (cond b (Err Tally) (Ok (f, (suc count), (total + met))))
           ≡ cond b (refused Tally) (ok (lent_replay n constants F (suc count) (total + met)))
       go true = refl
       go false = refl
 
   -- the rewards: on the first line (x) the reward before, h, or its 15 (e); the reward after, k, or its 15 (g)
   told-outcome : (x e g : Bool) (h k : ℕ)
-      → outcome_of n constants F (told_as f count total (both_added (cond x (cond e (Unvalued Valuations) (Value h)) (Value 0)) (cond g (Unvalued Valuations) (Value k))))
+      → outcome_of n constants F (told_as f count total (both_added (cond x (cond e (Err Valuations) (Ok h)) (Ok 0)) (cond g (Err Valuations) (Ok k))))
       ≡ cond ((x && e) || g) (refused Valuations)
       (cond (ltb highest_value (suc count) || ltb highest_value (total + (cond x h 0 + k))) (refused Tally) (ok (lent_replay n constants F (suc count) (total + (cond x h 0 + k)))))
   unfolding outcome_of
@@ -72,7 +71,7 @@ module _ (n : ℕ) (constants F : List ℕ) (f count total : ℕ) where
   told-outcome false e true h k = refl
   told-outcome false e false h k = tally-outcome (0 + k)
 
-  many-outcome : (b : Bool) (r : Stepped) → outcome_of n constants F (cond b (Refused Crowded) r) ≡ cond b (refused Crowded) (outcome_of n constants F r)
+  many-outcome : (b : Bool) (r : Result (ℕ × ℕ × ℕ) Refusal) → outcome_of n constants F (cond b (Err Crowded) r) ≡ cond b (refused Crowded) (outcome_of n constants F r)
   unfolding outcome_of
   many-outcome true r = refl
   many-outcome false r = refl
@@ -255,18 +254,18 @@ module _ {ar listings table : List ℕ} {h : Head} {a v n : ℕ} {constants fact
     reward-listed = subst (λ (x : List ℕ). is_listing ar x ≡ true) (sym p) t.laid.reward
 
     pub step-moved : {x : Bool} → x ≡ eqb (bound_number ar (weight_words listings table (variant_place a v)) n constants facts os) 0 → x ≡ false
-        → {r : Stepped} {out' : List ℕ} → Moves ar ws n constants facts F count total r out'
+        → {r : Result (ℕ × ℕ × ℕ) Refusal} {out' : List ℕ} → Moves ar ws n constants facts F count total r out'
         → Steps (lent_step ar listings table h a v n constants facts count total os) n constants r out'
     unfolding outcome_of
     step-moved q e {r} {out'} w =
         let m = subst (λ (x : List ℕ). Moves ar x n constants facts F count total r out') p w in
         go r m (did-moved (sym weightless-is ∙ sym q ∙ e) ∙ ap (outcome_of n constants F) (sym m.answer))
       where
-        go : (r : Stepped) → Moves ar (reward_words listings h) n constants facts F count total r out' → did M R D ≡ outcome_of n constants F r
+        go : (r : Result (ℕ × ℕ × ℕ) Refusal) → Moves ar (reward_words listings h) n constants facts F count total r out' → did M R D ≡ outcome_of n constants F r
             → Steps (lent_step ar listings table h a v n constants facts count total os) n constants r out'
-        go (Done f c k) m z = record {
+        go (Ok (f, c, k)) m z = record {
           is = z ∙ ap (λ (fs : List ℕ). ok (lent_replay n constants fs c k)) (sym (m.written f c k refl));
           few = m.few f c k refl;
           room = omega (arith, m.few f c k refl, m.room);
         }
-        go (Refused why) m z = z
+        go (Err why) m z = z

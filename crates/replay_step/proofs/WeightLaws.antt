@@ -16,8 +16,6 @@ use Rattle.diagram.specs.Sizes.{most_rows}
 use Rattle.diagram.specs.Diagram.{Diagram}
 use Rattle.diagram.specs.Listing.{diagram_of}
 use Rattle.diagram.specs.Variables.{occurs, occurring, variables, minimums, is_plain}
-use Rattle.state.specs.declared.Valued.{Valued}
-use Rattle.state.specs.declared.Valued.TheVariants.{Value, Refused}
 use Rattle.state.specs.Lent.{state_of}
 use Rattle.state.specs.State.{State, Good, meaning}
 use Rattle.state.specs.Highest.{Bound, start}
@@ -36,6 +34,7 @@ use Rattle.valuing.specs.Walks.{bound_number, bound_answer, climbed, is_few}
 use Rattle.valuing.specs.WalkLaws.{climbed-first}
 use Rattle.model.specs.Layout.{weight_words}
 use Rattle.replay_step.specs.Inside.{Weighing, WeighingAt}
+use Rattle.std.specs.Prelude.{Err, Ok, Result}
 
 none-occurring : (ar : List ℕ) (d : Diagram) (t n : ℕ) → ((u : ℕ) → t ≤ u → occurs ar u d ≡ false) → occurring ar d t n ≡ []
 unfolding occurring
@@ -83,20 +82,20 @@ one_up zero = refl
 one_up (suc x) = ne_eqb (suc (suc x)) 1 (omega arith) ∙ sym (ne_eqb (suc x) 0 (omega arith))
 
 module _ (ar ws : List ℕ) (n : ℕ) (constants facts os : List ℕ) (few : is_few ar n ws ≡ true) where
-  weight-answer : climbed 0 (bound_answer ar ws n constants facts os) ≡ Value (suc (bound_number ar ws n constants facts os))
+  weight-answer : climbed 0 (bound_answer ar ws n constants facts os) ≡ Ok (suc (bound_number ar ws n constants facts os))
   unfolding bound_answer is_too_large is_few state_of
   weight-answer =
       let e = not-true (ltb most_valuations (valuations ar n (diagram_of ws))) few in
-      ap (λ (b : Bool). climbed 0 (cond (b && (not (is_plain ar (diagram_of ws)) || ltb most_entries (all_entries (state_of ar n constants facts) os ar ws))) (Refused Valuations)
-      (Value (bound_number ar ws n constants facts os)))) e ∙ climbed-first (bound_number ar ws n constants facts os)
+      ap (λ (b : Bool). climbed 0 (cond (b && (not (is_plain ar (diagram_of ws)) || ltb most_entries (all_entries (state_of ar n constants facts) os ar ws))) (Err Valuations)
+      (Ok (bound_number ar ws n constants facts os)))) e ∙ climbed-first (bound_number ar ws n constants facts os)
 
-  module _ {r : Valued} (q : r ≡ climbed 0 (bound_answer ar ws n constants facts os)) where
-    pub climb-refused : {e : Refusal} → r ≡ Refused e → {A : Type 0} → A
-    climb-refused {e} h = let z : ◌≡◌ {A = Valued} (Refused e) (Value (suc (bound_number ar ws n constants facts os))) = sym h ∙ q ∙ weight-answer in
+  module _ {r : Result ℕ Refusal} (q : r ≡ climbed 0 (bound_answer ar ws n constants facts os)) where
+    pub climb-refused : {e : Refusal} → r ≡ Err e → {A : Type 0} → A
+    climb-refused {e} h = let z : ◌≡◌ {A = (Result ℕ Refusal)} (Err e) (Ok (suc (bound_number ar ws n constants facts os))) = sym h ∙ q ∙ weight-answer in
         let y : ◌≡◌ {A = ℕ} 0 1 = cc in absurd (omega arith)
 
-    pub climb-none : {b : ℕ} → r ≡ Value b → eqb b 1 ≡ eqb (bound_number ar ws n constants facts os) 0
-    climb-none {b} h = let z : ◌≡◌ {A = Valued} (Value b) (Value (suc (bound_number ar ws n constants facts os))) = sym h ∙ q ∙ weight-answer in
+    pub climb-none : {b : ℕ} → r ≡ Ok b → eqb b 1 ≡ eqb (bound_number ar ws n constants facts os) 0
+    climb-none {b} h = let z : ◌≡◌ {A = (Result ℕ Refusal)} (Ok b) (Ok (suc (bound_number ar ws n constants facts os))) = sym h ∙ q ∙ weight-answer in
         let y : b ≡ suc (bound_number ar ws n constants facts os) = cc in
         ap (λ (x : ℕ). eqb x 1) y ∙ one_up (bound_number ar ws n constants facts os)
 

@@ -6,13 +6,11 @@ use Rattle.diagram.specs.Words.{is_listing}
 use Rattle.diagram.specs.Listing.{diagram_of}
 use Rattle.diagram.specs.Variables.{is_plain}
 use Rattle.state.specs.Lent.{fact_words, fact_count, is_state, all_below, most_facts}
-use Rattle.state.specs.declared.Valued.{Valued}
-use Rattle.state.specs.declared.Valued.TheVariants.{Value, Refused as Unvalued}
 use Rattle.fact_index.specs.Inner.{indexed_count, Indexed}
 use Rattle.model.specs.Layout.{variant_words, weight_words}
 use Rattle.valuing.specs.Walks.{bound_answer, is_few}
-use Rattle.replay_step.specs.declared.Stepped.{Stepped}
-use Rattle.replay_step.specs.declared.Stepped.TheVariants.{Done, Refused}
+use Rattle.refusal.specs.declared.Refusal.{Refusal}
+use Rattle.std.specs.Prelude.{Err, Ok, Result}
 
 -- a weight's listing, which has no variable of either kind, a state with the index of its facts, and objects for the parameters
 pub record Weighing (ar ws : List ℕ) (n : ℕ) (constants facts index os : List ℕ) : Type 0 where
@@ -37,46 +35,46 @@ pub record Rewarding (ar ws : List ℕ) (n : ℕ) (constants facts index next : 
   pub lent-next : is_state ar n constants next ≡ true
 
 -- the reward before the move, on the first line
-unfoldable pub reward_before : List ℕ → List ℕ → ℕ → List ℕ → List ℕ → ℕ → Valued
+unfoldable pub reward_before : List ℕ → List ℕ → ℕ → List ℕ → List ℕ → ℕ → Result ℕ Refusal
 unfolding bound_answer
-reward_before ar ws n constants facts count = cond (eqb count 0) (bound_answer ar ws n constants facts []) (Value 0)
+reward_before ar ws n constants facts count = cond (eqb count 0) (bound_answer ar ws n constants facts []) (Ok 0)
 
 -- two answers added: the first refusal met
-abbrev pub added_to : ℕ → Valued → Valued
-added_to x (Value y) = Value (x + y)
-added_to x (Unvalued e) = Unvalued e
+abbrev pub added_to : ℕ → Result ℕ Refusal → Result ℕ Refusal
+added_to x (Ok y) = Ok (x + y)
+added_to x (Err e) = Err e
 
-abbrev pub both_added : Valued → Valued → Valued
-both_added (Value x) v = added_to x v
-both_added (Unvalued e) v = Unvalued e
+abbrev pub both_added : Result ℕ Refusal → Result ℕ Refusal → Result ℕ Refusal
+both_added (Ok x) v = added_to x v
+both_added (Err e) v = Err e
 
 -- the rewards met
-unfoldable pub rewards_met : List ℕ → List ℕ → ℕ → List ℕ → List ℕ → List ℕ → ℕ → Valued
+unfoldable pub rewards_met : List ℕ → List ℕ → ℕ → List ℕ → List ℕ → List ℕ → ℕ → Result ℕ Refusal
 unfolding reward_before bound_answer
 rewards_met ar ws n constants facts next count = both_added (reward_before ar ws n constants facts count) (bound_answer ar ws n constants next [])
 
 -- a value is no higher than a leaf may be
-pub record Low (most : ℕ) (r : Valued) : Type 0 where
-  pub few : (v : ℕ) → r ≡ Value v → v ≤ most
+pub record Low (most : ℕ) (r : Result ℕ Refusal) : Type 0 where
+  pub few : (v : ℕ) → r ≡ Ok v → v ≤ most
 
 -- 23, or the line counted
-unfoldable pub tallied_as : ℕ → ℕ → ℕ → ℕ → Stepped
-tallied_as f count total met = cond (ltb highest_value (suc count) || ltb highest_value (total + met)) (Refused Tally) (Done f (suc count) (total + met))
+unfoldable pub tallied_as : ℕ → ℕ → ℕ → ℕ → Result (ℕ × ℕ × ℕ) Refusal
+tallied_as f count total met = cond (ltb highest_value (suc count) || ltb highest_value (total + met)) (Err Tally) (Ok (f, (suc count), (total + met)))
 
 -- the same by what the rewards came to
-abbrev pub told_as : ℕ → ℕ → ℕ → Valued → Stepped
-told_as f count total (Value met) = tallied_as f count total met
-told_as f count total (Unvalued e) = Refused e
+abbrev pub told_as : ℕ → ℕ → ℕ → Result ℕ Refusal → Result (ℕ × ℕ × ℕ) Refusal
+told_as f count total (Ok met) = tallied_as f count total met
+told_as f count total (Err e) = Err e
 
 -- 22, or what the rewards came to: F are the facts of the next state
-unfoldable pub moved_as : List ℕ → List ℕ → ℕ → List ℕ → List ℕ → List ℕ → ℕ → ℕ → Stepped
+unfoldable pub moved_as : List ℕ → List ℕ → ℕ → List ℕ → List ℕ → List ℕ → ℕ → ℕ → Result (ℕ × ℕ × ℕ) Refusal
 unfolding tallied_as rewards_met
 moved_as ar ws n constants facts F count total =
-    cond (ltb most_facts (fact_count F)) (Refused Crowded) (told_as (fact_count F) count total (rewards_met ar ws n constants facts F count))
+    cond (ltb most_facts (fact_count F)) (Err Crowded) (told_as (fact_count F) count total (rewards_met ar ws n constants facts F count))
 
 -- the answer; the first f rows written are the facts of the next state, where the line is counted
-pub record Moves (ar ws : List ℕ) (n : ℕ) (constants facts F : List ℕ) (count total : ℕ) (r : Stepped) (out : List ℕ) : Type 0 where
+pub record Moves (ar ws : List ℕ) (n : ℕ) (constants facts F : List ℕ) (count total : ℕ) (r : Result (ℕ × ℕ × ℕ) Refusal) (out : List ℕ) : Type 0 where
   pub answer : r ≡ moved_as ar ws n constants facts F count total
-  pub written : (f c t : ℕ) → r ≡ Done f c t → take (f * fact_words) out ≡ F
-  pub few : (f c t : ℕ) → r ≡ Done f c t → f ≤ most_facts
+  pub written : (f c t : ℕ) → r ≡ Ok (f, c, t) → take (f * fact_words) out ≡ F
+  pub few : (f c t : ℕ) → r ≡ Ok (f, c, t) → f ≤ most_facts
   pub room : most_facts * fact_words ≤ length out

@@ -8,8 +8,8 @@ use Rattle.model.specs.declared.Head.{Head}
 use Rattle.model.specs.Inner.{Laid}
 use Rattle.model.specs.Layout.{variants_of, model_of}
 use Rattle.replay.specs.Replay.{Did, Replay, did}
-use Rattle.replay_step.specs.declared.Stepped.{Stepped}
-use Rattle.replay_step.specs.declared.Stepped.TheVariants.{Done, Refused}
+use Rattle.refusal.specs.declared.Refusal.{Refusal}
+use Rattle.std.specs.Prelude.{Err, Ok, Result}
 
 -- the state in hand as it is lent, with count and total
 abbrev pub lent_replay : ℕ → List ℕ → List ℕ → ℕ → ℕ → Replay
@@ -42,6 +42,6 @@ pub record Moved (o : Outcome Replay) (n : ℕ) (constants : List ℕ) (f c t : 
   pub room : f * fact_words ≤ length out
 
 -- the answer of what o is; after a refusal the words written are free
-abbrev pub Steps : Outcome Replay → ℕ → List ℕ → Stepped → List ℕ → Type 0
-Steps o n constants (Done f c t) out = Moved o n constants f c t out
-Steps o n constants (Refused e) out = o ≡ refused e
+abbrev pub Steps : Outcome Replay → ℕ → List ℕ → Result (ℕ × ℕ × ℕ) Refusal → List ℕ → Type 0
+Steps o n constants (Ok (f, c, t)) out = Moved o n constants f c t out
+Steps o n constants (Err e) out = o ≡ refused e

@@ -1,4 +1,5 @@
 // The code of one (did ..) line behind its names and counts: 21, the facts of the next state, the rewards met, count and total. What it is stands in crate replay.
+// A line answers how many facts the next state has, the count and the total; or the first refusal met.
 #![tactic(auto)]
 
 ghost use Rattle.std.specs.Prelude.{◌≡◌, true, ◌+◌, ◌≤◌, eqb};
@@ -11,19 +12,11 @@ ghost use Rattle.replay.specs.Replay.{facts_of};
 ghost use Rattle.next_facts.specs.NextCall.{after_at, Moving};
 ghost use Rattle.valuing.specs.Walks.{bound_number};
 ghost use Rattle.replay_step.specs.Stepped.{lent_step, StepTask, Steps};
-ghost use Rattle.replay_step.specs.Inside.{Weighing, WeighingAt, reward_before, added_to, rewards_met, Rewarding, Low, tallied_as, told_as, Moves};
+ghost use Rattle.replay_step.specs.Inside.{Weighing, WeighingAt, reward_before, rewards_met, Rewarding, tallied_as, Moves};
 
 use model::Head;
-use next_facts::Facts;
 use refusal::Refusal;
-use state::{FACT_WORDS, Valued};
-
-// What a line answers: how many facts the next state has, the count and the total; or the first refusal met.
-#[derive(Clone, Copy)]
-pub enum Stepped {
-    Done(usize, u64, u64),
-    Refused(Refusal),
-}
+use state::FACT_WORDS;
 
 // Whether a weight is 0 in the state, with objects for the parameters. It has no variable of either kind: 15 is not met.
 fn is_weightless(
@@ -43,7 +36,7 @@ fn is_weightless(
     let v = valuing::climb(
         arities, words, &high, n, constants, facts, index, objects, true, true, 0,
     );
-    let Valued::Value(b) = v else {
+    let Ok(b) = v else {
         return true;
     };
     b == 1
@@ -87,29 +80,17 @@ fn reward_before(
     facts: &[u64],
     index: &[u64],
     count: u64,
-) -> Valued
+) -> Result<u64, Refusal>
     requires words_value { is_listing arities.now words.now ≡ true }
     requires facts_value { is_state arities.now n constants.now facts.now ≡ true }
     requires indexed { Indexed arities.now facts.now index.now (indexed_count facts.now index.now) }
     ensures { result ≡ reward_before arities.now words.now n constants.now facts.now count }
 {
     if count != 0 {
-        return Valued::Value(0);
+        return Ok(0);
     }
     let mut high = [0u64; diagram::ROWS];
     valuing::value_indexed(arities, words, n, constants, facts, index, &mut high)
-}
-
-// One reward more.
-fn added(x: u64, v: Valued) -> Valued
-    requires x_le_highest_value { x ≤ highest_value }
-    requires low { Low highest_value v }
-    ensures { result ≡ added_to x v }
-{
-    match v {
-        Valued::Value(y) => Valued::Value(x + y),
-        Valued::Refused(e) => Valued::Refused(e),
-    }
 }
 
 // The rewards met by a move from the facts to the next ones, or 15.
@@ -122,20 +103,17 @@ fn rewards_met(
     index: &[u64],
     next: &[u64],
     count: u64,
-) -> Valued
+) -> Result<u64, Refusal>
     requires { Rewarding arities.now words.now n constants.now facts.now index.now next.now }
     ensures { result ≡ rewards_met arities.now words.now n constants.now facts.now next.now count }
 {
-    let before = reward_before(arities, words, n, constants, facts, index, count);
-    let Valued::Value(x) = before else {
-        return before;
-    };
-    let after = valuing::value_listed(arities, words, n, constants, next);
-    added(x, after)
+    let before = reward_before(arities, words, n, constants, facts, index, count)?;
+    let after = valuing::value_listed(arities, words, n, constants, next)?;
+    Ok(before + after)
 }
 
 // One line more, or 23.
-fn tallied(facts: usize, count: u64, total: u64, met: u64) -> Stepped
+fn tallied(facts: usize, count: u64, total: u64, met: u64) -> Result<(usize, u64, u64), Refusal>
     requires count_le_highest_value { count ≤ highest_value }
     requires total_le_highest_value { total ≤ highest_value }
     requires met_bound { met ≤ highest_value + highest_value }
@@ -143,26 +121,10 @@ fn tallied(facts: usize, count: u64, total: u64, met: u64) -> Stepped
 {
     let lines = count + 1;
     let sum = total + met;
-    if lines > diagram::VALUE {
-        return Stepped::Refused(Refusal::Tally);
+    if lines > diagram::VALUE || sum > diagram::VALUE {
+        return Err(Refusal::Tally);
     }
-    if sum > diagram::VALUE {
-        return Stepped::Refused(Refusal::Tally);
-    }
-    Stepped::Done(facts, lines, sum)
-}
-
-// The same by what the rewards came to.
-fn told(facts: usize, count: u64, total: u64, met: Valued) -> Stepped
-    requires count_le_highest_value { count ≤ highest_value }
-    requires total_le_highest_value { total ≤ highest_value }
-    requires low { Low (highest_value + highest_value) met }
-    ensures { result ≡ told_as facts count total met }
-{
-    match met {
-        Valued::Value(m) => tallied(facts, count, total, m),
-        Valued::Refused(e) => Stepped::Refused(e),
-    }
+    Ok((facts, lines, sum))
 }
 
 // A move that has weight: the facts of the next state are written; then the rewards, by the reward's words, the count and the total.
@@ -180,7 +142,7 @@ fn moved(
     total: u64,
     objects: &[u64],
     out: &mut [u64],
-) -> Stepped
+) -> Result<(usize, u64, u64), Refusal>
     requires moving { Moving arities.now listings.now table.now place n constants.now facts.now objects.now out.old }
     requires words_value { is_listing arities.now words.now ≡ true }
     requires indexed { Indexed arities.now facts.now index.now (indexed_count facts.now index.now) }
@@ -190,11 +152,10 @@ fn moved(
         (facts_of arities.now (after_at arities.now listings.now table.now place n constants.now facts.now
         objects.now)) count total result out.new }
 {
-    let Facts::Rows(rows) = next_facts::next_facts(
+    let rows = next_facts::next_facts(
         arities, listings, table, place, n, constants, facts, objects, out,
-    ) else {
-        return Stepped::Refused(Refusal::Crowded);
-    };
+    )
+    .ok_or(Refusal::Crowded)?;
     let met = rewards_met(
         arities,
         words,
@@ -204,8 +165,8 @@ fn moved(
         index,
         &out[..rows * FACT_WORDS],
         count,
-    );
-    told(rows, count, total, met)
+    )?;
+    tallied(rows, count, total, met)
 }
 
 // One line: the facts of the next state are written; behind them, and after a refusal, words are free.
@@ -224,7 +185,7 @@ pub fn step(
     total: u64,
     objects: &[u64],
     out: &mut [u64],
-) -> Stepped
+) -> Result<(usize, u64, u64), Refusal>
     requires { StepTask arities.now listings.now table.now head action variant n constants.now facts.now index.now count total objects.now out.old }
     ensures { Steps (lent_step arities.now listings.now table.now head action variant n constants.now facts.now count total
         objects.now) n constants.now result out.new }
@@ -233,7 +194,7 @@ pub fn step(
     if has_no_weight(
         arities, listings, table, place, n, constants, facts, index, objects,
     ) {
-        return Stepped::Refused(Refusal::Weightless);
+        return Err(Refusal::Weightless);
     }
     let first = head.reward_start;
     let end = first + head.reward_words;

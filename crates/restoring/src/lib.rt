@@ -93,12 +93,10 @@ fn arity_fits(arities: &[u64], n: usize, p: usize) -> bool
 fn undeclared_fit(arities: &[u64], n: usize) -> bool
     ensures { result ≡ every_below predicate_count (λ p. leb p n || eqb (get_or arities.now p 0) 0) }
 {
-    let mut p = 0;
-    while p < Label::PREDICATES {
+    for p in 0..Label::PREDICATES {
         if !arity_fits(arities, n, p) {
             return false;
         }
-        p += 1;
     }
     true
 }
@@ -272,8 +270,7 @@ fn is_power(scale: u64, k: u64, power: u64) -> bool
         return power == 1;
     }
     let mut x = power;
-    let mut i = 0;
-    while i < k {
+    for i in 0..k {
         if x < scale {
             return false;
         }
@@ -281,7 +278,6 @@ fn is_power(scale: u64, k: u64, power: u64) -> bool
             return false;
         }
         x = x / scale;
-        i += 1;
     }
     x == 1
 }

@@ -28,7 +28,6 @@ use Rattle.words.specs.WordLaws.{number-complete}
 use Rattle.words.specs.Keys.{key_of, name_of}
 use Rattle.words.specs.KeyLaws.{name-of}
 use Rattle.words.specs.declared.Key.{Key}
-use Rattle.words.specs.declared.Took.TheVariants.{Bytes}
 use Rattle.forms.specs.Tree as T
 use Rattle.forms.specs.Tree.Mark.{plain, variable, minimum}
 use Rattle.forms.specs.Tree.Term.{term}
@@ -44,6 +43,7 @@ use Rattle.line_trees.proofs.VariableLaws.{diagram-keys}
 use Rattle.diagram_form.specs.Form.{Tables, variable_name, term_tree, atom_tree, form_tree}
 use Rattle.round_trip.specs.Numbering.{every, inserted, sorted}
 use Rattle.round_trip.proofs.NameLaws.{variable-is-name, counted, first_met}
+use Rattle.std.specs.Prelude.{Some}
 
 -- ===== Sorted =====
 
@@ -126,7 +126,7 @@ in-sorted xs =
 is_number : (s : List ℕ) → IsNumber s → takes (length s) (number_form s) ≡ true
 unfolding is_digit
 is_number s g =
-    let e : number_form s ≡ Bytes (length s) = ap number_form (sym (append-nil s)) ∙ number-complete s [] g refl in
+    let e : number_form s ≡ Some (length s) = ap number_form (sym (append-nil s)) ∙ number-complete s [] g refl in
     rw e (eq-eqb (length s) (length s) refl)
 
 -- the digits of a number, and digits behind them

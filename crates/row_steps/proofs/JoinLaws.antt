@@ -28,10 +28,9 @@ use Rattle.combine.specs.Joining.{rows_after, count_after, diagrams_after, Joint
 use Rattle.combine.specs.Endings.{Told, Ended, many, high, full, row, ended}
 use Rattle.combine.specs.declared.Joined.{Joined}
 use Rattle.combine.specs.declared.Joined.TheVariants.{At}
-use Rattle.row_steps.specs.declared.Stepped.{Stepped}
-use Rattle.row_steps.specs.declared.Stepped.TheVariants.{Row, Refused}
 use Rattle.row_steps.specs.Running.{Valued, Final, told_as, Ran}
 use Rattle.row_steps.specs.RunLaws.{formed-ran, valued-onto, valued-take, ran-answer}
+use Rattle.std.specs.Prelude.{Err, Ok, Result}
 
 -- leaves in their range
 most-node : (b l : ℕ) (t f : Diagram) → AtMost b t → AtMost b f → AtMost b (node l t f)
@@ -53,6 +52,10 @@ most-apply : (op : Operation) (a b : Diagram) → overflows (operate op) (pairs 
 most-apply op a b h = most-course op (course op a b) h
 
 -- `join`
+-- equal refusals of a step have one word
+err_word : {w o : Refusal} {n m : ℕ} → ◌≡◌ {A = Result (ℕ × ℕ) (Refusal × ℕ)} (Err (w, n)) (Err (o, m)) → o ≡ w
+err_word {w} {o} {n} {m} x = let z : ◌≡◌ {A = Refusal × ℕ} (w, n) (o, m) = cc in sym (ap (λ (z : Refusal × ℕ). z.0) z)
+
 module _ {limit : ℕ} {op : Operation} {a b : Diagram} {s₀ : List ℕ} {count : ℕ} {r : Joined} {s heads links index : List ℕ} (most : limit ≤ most_pairs)
     (v : Valued (diagrams_of s₀ count)) (j : Joint op limit a b s₀ count r s heads links index) where
   abbrev D : Diagram
@@ -68,7 +71,7 @@ module _ {limit : ℕ} {op : Operation} {a b : Diagram} {s₀ : List ℕ} {count
   diagrams : {y : Joined} → r ≡ y → diagrams_of s (count_after count y) ≡ diagrams_after op a b (diagrams_of s₀ count) y
   diagrams e = subst (λ (x : Joined). diagrams_of s (count_after count x) ≡ diagrams_after op a b (diagrams_of s₀ count) x) e j.diagrams
 
-  result : {i n p : ℕ} → r ≡ At i n p → Told op limit a b (diagrams_of s₀ count) i n p → Ran limit (combine op a b) s₀ count (Row i n) s heads links index
+  result : {i n p : ℕ} → r ≡ At i n p → Told op limit a b (diagrams_of s₀ count) i n p → Ran limit (combine op a b) s₀ count (Ok (i, n)) s heads links index
   result {i} {n} {p} e q =
       let f = formed-room s heads links Rows n (sym q.count) (subst (Written s) (diagrams e) (holds e).written) (holds e).table D i (sym q.row) in
       let c = combine-calm op a b (diagrams_of s₀ count) (omega (arith, most, q.few)) q.calm in
@@ -82,15 +85,15 @@ module _ {limit : ℕ} {op : Operation} {a b : Diagram} {s₀ : List ℕ} {count
 
   -- refused for w, with n rows then
   stopped : (w : Refusal) (n : ℕ) → Holds s heads links n → Valued (diagrams_of s n) → (Final limit w → combine op a b (diagrams_of s₀ count) ≡ refused w)
-      → Ran limit (combine op a b) s₀ count (Refused w n) s heads links index
+      → Ran limit (combine op a b) s₀ count (Err (w, n)) s heads links index
   stopped w n h u g = record {
     space = record { holds = h; values = u };
     clean = j.clean;
     row = λ k m x. let z : ◌≡◌ {A = ℕ} 0 1 = cc in absurd (omega arith);
-    refusal = λ o m x y. let p : o ≡ w = cc in rw p (g (λ q. y (p ∙ q)));
+    refusal = λ o m x y. let p = err_word x in rw p (g (λ q. y (p ∙ q)));
   }
 
-  pub joined : {x : Stepped} → x ≡ told_as count r → Ran limit (combine op a b) s₀ count x s heads links index
+  pub joined : {x : Result (ℕ × ℕ) (Refusal × ℕ)} → x ≡ told_as count r → Ran limit (combine op a b) s₀ count x s heads links index
   joined {x} t = go (ended op limit a b (diagrams_of s₀ count) j.answer)
     where
       told : {y : Joined} → r ≡ y → Ran limit (combine op a b) s₀ count (told_as count y) s heads links index → Ran limit (combine op a b) s₀ count x s heads links index

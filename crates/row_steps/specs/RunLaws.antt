@@ -23,8 +23,6 @@ use Rattle.plan.specs.Plan.{Clean}
 use Rattle.plan.specs.PlanLaws.{index-empty}
 use Rattle.apply.specs.Formed.{add}
 use Rattle.apply.proofs.FormedLaws.{add-leaf}
-use Rattle.store.specs.declared.Formed.{Formed}
-use Rattle.store.specs.declared.Formed.TheVariants.{Row as FormedRow, Full}
 use Rattle.store.specs.Space.{diagrams_of, Holds, Formation}
 use Rattle.store.proofs.SpaceLaws.{length-diagrams, tree-row, formation-row, formation-full, formation-tree, formation-old}
 use Rattle.regression.specs.Calls.{Run, bind, form}
@@ -32,9 +30,8 @@ use Rattle.regression.proofs.CallLaws.{form-room, form-space, form-old, bind-ref
 use Rattle.regression.specs.Result.{AtMost}
 use Rattle.combine.specs.RowPairs.{Operand}
 use Rattle.combine.specs.Paired.{Pairable}
-use Rattle.row_steps.specs.declared.Stepped.{Stepped}
-use Rattle.row_steps.specs.declared.Stepped.TheVariants.{Row, Refused}
 use Rattle.row_steps.specs.Running.{Valued, Space, Ready, Two, Gave, Final, is_crowded, Ran}
+use Rattle.std.specs.Prelude.{Err, None, Ok, Option, Result, Some}
 
 -- leaves in their range
 most-part : (b v : ℕ) (d : Diagram) → AtMost b d → is_part (leaf v) d ≡ true → v ≤ b
@@ -140,7 +137,7 @@ ready-pairable {plan} {index} {s} {heads} {links} {limit} {count} {i} {j} r t =
 
 -- rows that were formed
 module _ (s₀ : List ℕ) (count : ℕ) (d : Diagram) {s heads links : List ℕ} where
-  pub formed-gave : {i n : ℕ} → Formation d (onto d (diagrams_of s₀ count)) (FormedRow i n) s heads links → Gave (form d) s₀ count i n s
+  pub formed-gave : {i n : ℕ} → Formation d (onto d (diagrams_of s₀ count)) (Some (i, n)) s heads links → Gave (form d) s₀ count i n s
   formed-gave {i} {n} f =
       let r = formation-row f in
       let t = formation-tree f (onto-mem d (diagrams_of s₀ count)) in
@@ -156,37 +153,44 @@ module _ (s₀ : List ℕ) (count : ℕ) (d : Diagram) {s heads links : List ℕ
       below zero o = omega arith
       below (suc c) o = let q = (o c (omega arith)).0 in omega arith
 
-  pub formed-stop : Formation d (onto d (diagrams_of s₀ count)) Full s heads links → form d (diagrams_of s₀ count) ≡ refused NoSpace
+  pub formed-stop : Formation d (onto d (diagrams_of s₀ count)) None s heads links → form d (diagrams_of s₀ count) ≡ refused NoSpace
   formed-stop f = form-space d (diagrams_of s₀ count) (formation-full f)
 
-  pub formed-space : {i n : ℕ} → AtMost highest_value d → Valued (diagrams_of s₀ count) → Formation d (onto d (diagrams_of s₀ count)) (FormedRow i n) s heads links → Space s heads links n
+  pub formed-space : {i n : ℕ} → AtMost highest_value d → Valued (diagrams_of s₀ count) → Formation d (onto d (diagrams_of s₀ count)) (Some (i, n)) s heads links → Space s heads links n
   formed-space {i} {n} a v f = record { holds = f.holds; values = subst Valued (sym (formation-row f).3) (valued-onto d (diagrams_of s₀ count) a v) }
 
-  pub full-space : AtMost highest_value d → Valued (diagrams_of s₀ count) → Formation d (onto d (diagrams_of s₀ count)) Full s heads links → Space s heads links space_rows
+  pub full-space : AtMost highest_value d → Valued (diagrams_of s₀ count) → Formation d (onto d (diagrams_of s₀ count)) None s heads links → Space s heads links space_rows
   full-space a v f = record { holds = f.holds; values = subst Valued (sym f.diagrams) (valued-take space_rows (onto d (diagrams_of s₀ count)) (valued-onto d (diagrams_of s₀ count) a v)) }
 
   pub formed-ran : {limit i n : ℕ} {index : List ℕ} → AtMost highest_value d → Valued (diagrams_of s₀ count) → Clean index
-      → Formation d (onto d (diagrams_of s₀ count)) (FormedRow i n) s heads links
-      → Ran limit (form d) s₀ count (Row i n) s heads links index
+      → Formation d (onto d (diagrams_of s₀ count)) (Some (i, n)) s heads links
+      → Ran limit (form d) s₀ count (Ok (i, n)) s heads links index
   formed-ran {limit} {i} {n} a v c f = record {
     space = formed-space a v f;
     clean = c;
-    row = λ j m e. let p : i ≡ j = cc in let q : n ≡ m = cc in rw (← p, ← q) (formed-gave f);
+    row = λ j m e.
+        let z : ◌≡◌ {A = ℕ × ℕ} (i, n) (j, m) = cc in
+        let p : i ≡ j = ap (λ (z : ℕ × ℕ). z.0) z in
+        let q : n ≡ m = ap (λ (z : ℕ × ℕ). z.1) z in
+        rw (← p, ← q) (formed-gave f);
     refusal = λ w m e x. let z : ◌≡◌ {A = ℕ} 0 1 = cc in absurd (omega arith);
   }
 
   pub full-ran : {limit : ℕ} {index : List ℕ} → AtMost highest_value d → Valued (diagrams_of s₀ count) → Clean index
-      → Formation d (onto d (diagrams_of s₀ count)) Full s heads links
-      → Ran limit (form d) s₀ count (Refused NoSpace 2048) s heads links index
+      → Formation d (onto d (diagrams_of s₀ count)) None s heads links
+      → Ran limit (form d) s₀ count (Err (NoSpace, 2048)) s heads links index
   full-ran a v c f = record {
     space = full-space a v f;
     clean = c;
     row = λ j m e. let z : ◌≡◌ {A = ℕ} 0 1 = cc in absurd (omega arith);
-    refusal = λ w m e x. let p : NoSpace ≡ w = cc in rw (← p) (formed-stop f);
+    refusal = λ w m e x.
+        let z : ◌≡◌ {A = Refusal × ℕ} (NoSpace, 2048) (w, m) = cc in
+        let p : NoSpace ≡ w = ap (λ (z : Refusal × ℕ). z.0) z in
+        rw (← p) (formed-stop f);
   }
 
 -- one step after another
-pub ran-bind : (m : Run Diagram) (f : Diagram → Run Diagram) {limit : ℕ} {s₀ s : List ℕ} {count i n : ℕ} {r : Stepped} {s' heads' links' index' : List ℕ}
+pub ran-bind : (m : Run Diagram) (f : Diagram → Run Diagram) {limit : ℕ} {s₀ s : List ℕ} {count i n : ℕ} {r : Result (ℕ × ℕ) (Refusal × ℕ)} {s' heads' links' index' : List ℕ}
     → Gave m s₀ count i n s → Ran limit (f (tree s i)) s n r s' heads' links' index' → Ran limit (bind m f) s₀ count r s' heads' links' index'
 ran-bind m f {limit} {s₀} {s} {count} {i} {n} g q = record {
   space = q.space;
@@ -203,18 +207,19 @@ ran-bind m f {limit} {s₀} {s} {count} {i} {n} g q = record {
 }
 
 pub ran-stop : (m : Run Diagram) (f : Diagram → Run Diagram) {limit : ℕ} {s₀ : List ℕ} {count n : ℕ} {w : Refusal} {s heads links index : List ℕ}
-    → Ran limit m s₀ count (Refused w n) s heads links index → Ran limit (bind m f) s₀ count (Refused w n) s heads links index
+    → Ran limit m s₀ count (Err (w, n)) s heads links index → Ran limit (bind m f) s₀ count (Err (w, n)) s heads links index
 ran-stop m f {limit} {s₀} {count} {n} {w} q = record {
   space = q.space;
   clean = q.clean;
   row = λ j k e. let z : ◌≡◌ {A = ℕ} 0 1 = cc in absurd (omega arith);
   refusal = λ v k e x.
-      let p : w ≡ v = cc in
+      let z : ◌≡◌ {A = Refusal × ℕ} (w, n) (v, k) = cc in
+      let p : w ≡ v = ap (λ (z : Refusal × ℕ). z.0) z in
       bind-refused m f (diagrams_of s₀ count) v (subst (λ (u : Refusal). Final limit u → m (diagrams_of s₀ count) ≡ refused u) p (q.refusal w n refl) x);
 }
 
 -- a refusal that is none for pairs, and one with room for all pairs
-pub uncrowded-final : {limit : ℕ} (r : Stepped) (w : Refusal) (n : ℕ) → is_crowded r ≡ false → r ≡ Refused w n → Final limit w
+pub uncrowded-final : {limit : ℕ} (r : Result (ℕ × ℕ) (Refusal × ℕ)) (w : Refusal) (n : ℕ) → is_crowded r ≡ false → r ≡ Err (w, n) → Final limit w
 uncrowded-final r w n c e p =
     let x : eqb (number_of w) (number_of Pairs) ≡ true = eq-eqb (number_of w) (number_of Pairs) (ap number_of p) in
     let y : eqb (number_of w) (number_of Pairs) ≡ false = sym (ap is_crowded e) ∙ c in
@@ -233,17 +238,17 @@ gave-old {s} {heads} {links} {count} {i} h l = record {
 }
 
 -- a leaf formed is the leaf put onto the rows
-module _ (s₀ : List ℕ) (count : ℕ) {v : ℕ} {r : Formed} {s heads links : List ℕ} where
+module _ (s₀ : List ℕ) (count : ℕ) {v : ℕ} {r : Option (ℕ × ℕ)} {s heads links : List ℕ} where
   pub leaf-onto : Formation (leaf v) (add (leaf v) (diagrams_of s₀ count)) r s heads links → Formation (leaf v) (onto (leaf v) (diagrams_of s₀ count)) r s heads links
   leaf-onto f = subst (λ (rs : List Diagram). Formation (leaf v) rs r s heads links) (add-leaf v (diagrams_of s₀ count)) f
 
 -- answers that are known
-pub row-known : {d : Diagram} {rs : List Diagram} {r : Formed} {i n : ℕ} {s heads links : List ℕ} → Formation d rs r s heads links → r ≡ FormedRow i n
-    → Formation d rs (FormedRow i n) s heads links
-row-known {d} {rs} {r} {i} {n} {s} {heads} {links} f e = subst (λ (x : Formed). Formation d rs x s heads links) e f
+pub row-known : {d : Diagram} {rs : List Diagram} {r : Option (ℕ × ℕ)} {i n : ℕ} {s heads links : List ℕ} → Formation d rs r s heads links → r ≡ Some (i, n)
+    → Formation d rs (Some (i, n)) s heads links
+row-known {d} {rs} {r} {i} {n} {s} {heads} {links} f e = subst (λ (x : Option (ℕ × ℕ)). Formation d rs x s heads links) e f
 
-pub full-known : {d : Diagram} {rs : List Diagram} {r : Formed} {s heads links : List ℕ} → Formation d rs r s heads links → r ≡ Full → Formation d rs Full s heads links
-full-known {d} {rs} {r} {s} {heads} {links} f e = subst (λ (x : Formed). Formation d rs x s heads links) e f
+pub full-known : {d : Diagram} {rs : List Diagram} {r : Option (ℕ × ℕ)} {s heads links : List ℕ} → Formation d rs r s heads links → r ≡ None → Formation d rs None s heads links
+full-known {d} {rs} {r} {s} {heads} {links} f e = subst (λ (x : Option (ℕ × ℕ)). Formation d rs x s heads links) e f
 
 -- leaves 0 and 1 are in their range
 most-more : (a b : ℕ) → a ≤ b → (d : Diagram) → AtMost a d → AtMost b d
@@ -254,10 +259,10 @@ pub one-most : (d : Diagram) → AtMost 1 d → AtMost highest_value d
 one-most d x = most-more 1 highest_value (omega arith) d x
 
 -- the same step, and a known answer
-pub ran-cast : {limit : ℕ} {m m' : Run Diagram} {s₀ : List ℕ} {count : ℕ} {r : Stepped} {s heads links index : List ℕ} → m ≡ m'
+pub ran-cast : {limit : ℕ} {m m' : Run Diagram} {s₀ : List ℕ} {count : ℕ} {r : Result (ℕ × ℕ) (Refusal × ℕ)} {s heads links index : List ℕ} → m ≡ m'
     → Ran limit m s₀ count r s heads links index → Ran limit m' s₀ count r s heads links index
 ran-cast {limit} {m} {m'} {s₀} {count} {r} {s} {heads} {links} {index} e x = subst (λ (z : Run Diagram). Ran limit z s₀ count r s heads links index) e x
 
-pub ran-answer : {limit : ℕ} {m : Run Diagram} {s₀ : List ℕ} {count : ℕ} {r r' : Stepped} {s heads links index : List ℕ} → r ≡ r'
+pub ran-answer : {limit : ℕ} {m : Run Diagram} {s₀ : List ℕ} {count : ℕ} {r r' : Result (ℕ × ℕ) (Refusal × ℕ)} {s heads links index : List ℕ} → r ≡ r'
     → Ran limit m s₀ count r s heads links index → Ran limit m s₀ count r' s heads links index
-ran-answer {limit} {m} {s₀} {count} {r} {r'} {s} {heads} {links} {index} e x = subst (λ (z : Stepped). Ran limit m s₀ count z s heads links index) e x
+ran-answer {limit} {m} {s₀} {count} {r} {r'} {s} {heads} {links} {index} e x = subst (λ (z : Result (ℕ × ℕ) (Refusal × ℕ)). Ran limit m s₀ count z s heads links index) e x

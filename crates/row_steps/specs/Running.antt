@@ -15,15 +15,12 @@ use Rattle.diagram.specs.Rows.{onto}
 use Rattle.diagram.specs.Validity.{tree}
 use Rattle.apply.specs.declared.Operation.TheVariants.{Sum, Product}
 use Rattle.plan.specs.Plan.{Clean}
-use Rattle.store.specs.declared.Formed.{Formed}
-use Rattle.store.specs.declared.Formed.TheVariants.{Row as FormedRow, Full}
 use Rattle.store.specs.Space.{diagrams_of, Holds, Formation}
 use Rattle.regression.specs.Calls.{Run, bind, combine}
 use Rattle.regression.specs.Step.{exchanged}
 use Rattle.combine.specs.declared.Joined.{Joined}
 use Rattle.combine.specs.declared.Joined.TheVariants.{At, TooManyPairs, TooHighValue, NoRoom}
-use Rattle.row_steps.specs.declared.Stepped.{Stepped}
-use Rattle.row_steps.specs.declared.Stepped.TheVariants.{Row, Refused}
+use Rattle.std.specs.Prelude.{Err, None, Ok, Option, Result, Some}
 
 -- no leaf among the rows is above 10^18
 pub record Valued (rs : List Diagram) : Type 0 where
@@ -71,33 +68,33 @@ pub record Gave (m : Run Diagram) (s₀ : List ℕ) (count i n : ℕ) (s : List 
   pub stays : (k : ℕ) → k < count → tree s k ≡ tree s₀ k
 
 -- the rows in the space after an answer
-abbrev pub count_then : Stepped → ℕ
-count_then (Row i n) = n
-count_then (Refused w n) = n
+abbrev pub count_then : Result (ℕ × ℕ) (Refusal × ℕ) → ℕ
+count_then (Ok (i, n)) = n
+count_then (Err (w, n)) = n
 
 -- a refusal that more room for pairs would not change: it is not for pairs, or there is room for all
 abbrev pub Final : ℕ → Refusal → Type 0
 Final limit w = w ≡ Pairs → limit ≡ most_pairs
 
 -- what a combination in a space of `count` rows says as a step
-abbrev pub told_as : ℕ → Joined → Stepped
-told_as count (At i n p) = Row i n
-told_as count TooManyPairs = Refused Pairs count
-told_as count TooHighValue = Refused Value count
-told_as count NoRoom = Refused NoSpace space_rows
+abbrev pub told_as : ℕ → Joined → Result (ℕ × ℕ) (Refusal × ℕ)
+told_as count (At i n p) = Ok (i, n)
+told_as count TooManyPairs = Err (Pairs, count)
+told_as count TooHighValue = Err (Value, count)
+told_as count NoRoom = Err (NoSpace, space_rows)
 
 -- whether a step was refused for pairs
-abbrev pub is_crowded : Stepped → Bool
-is_crowded (Row i n) = false
-is_crowded (Refused w n) = eqb (number_of w) (number_of Pairs)
+abbrev pub is_crowded : Result (ℕ × ℕ) (Refusal × ℕ) → Bool
+is_crowded (Ok (i, n)) = false
+is_crowded (Err (w, n)) = eqb (number_of w) (number_of Pairs)
 
 -- what running the step m with room for `limit` pairs ensures: the space then, the plan's index clean, and the answer or the refusal that the step gives; a
 -- refusal for pairs is the step's own only where there is room for all
-pub record Ran (limit : ℕ) (m : Run Diagram) (s₀ : List ℕ) (count : ℕ) (r : Stepped) (s heads links index : List ℕ) : Type 0 where
+pub record Ran (limit : ℕ) (m : Run Diagram) (s₀ : List ℕ) (count : ℕ) (r : Result (ℕ × ℕ) (Refusal × ℕ)) (s heads links index : List ℕ) : Type 0 where
   pub space : Space s heads links (count_then r)
   pub clean : Clean index
-  pub row : (i n : ℕ) → r ≡ Row i n → Gave m s₀ count i n s
-  pub refusal : (w : Refusal) (n : ℕ) → r ≡ Refused w n → Final limit w → m (diagrams_of s₀ count) ≡ refused w
+  pub row : (i n : ℕ) → r ≡ Ok (i, n) → Gave m s₀ count i n s
+  pub refusal : (w : Refusal) (n : ℕ) → r ≡ Err (w, n) → Final limit w → m (diagrams_of s₀ count) ≡ refused w
 
 -- the rows of 1 - T that are known: for row k one more than the row of its 1 - T, or 0
 pub record Noted (s memo : List ℕ) (count : ℕ) : Type 0 where
@@ -105,14 +102,14 @@ pub record Noted (s memo : List ℕ) (count : ℕ) : Type 0 where
   pub each : (k j : ℕ) → k < space_rows → get_or memo k 0 ≡ suc j → (k < count) × (j < count) × (tree s j ≡ exchanged (tree s k))
 
 -- the notes with the row that was formed for row i
-abbrev pub noted_for : ℕ → Formed → List ℕ → List ℕ
-noted_for i (FormedRow j n) memo = set memo i (j + 1)
-noted_for i Full memo = memo
+abbrev pub noted_for : ℕ → Option (ℕ × ℕ) → List ℕ → List ℕ
+noted_for i (Some (j, n)) memo = set memo i (j + 1)
+noted_for i None memo = memo
 
 -- the notes have room for the row that was formed for row i
-pub record Notable (memo : List ℕ) (i : ℕ) (r : Formed) : Type 0 where
+pub record Notable (memo : List ℕ) (i : ℕ) (r : Option (ℕ × ℕ)) : Type 0 where
   pub place : i < length memo
-  pub small : (j n : ℕ) → r ≡ FormedRow j n → j + 1 < 65536
+  pub small : (j n : ℕ) → r ≡ Some (j, n) → j + 1 < 65536
 
 -- what forming 1 - T for row i requires
 pub record Exchangeable (s heads links memo : List ℕ) (count i : ℕ) : Type 0 where
@@ -121,9 +118,9 @@ pub record Exchangeable (s heads links memo : List ℕ) (count i : ℕ) : Type 0
   pub row : i < count
 
 -- and ensures
-pub record Exchanged (s₀ : List ℕ) (count i : ℕ) (r : Formed) (s heads links memo : List ℕ) : Type 0 where
+pub record Exchanged (s₀ : List ℕ) (count i : ℕ) (r : Option (ℕ × ℕ)) (s heads links memo : List ℕ) : Type 0 where
   pub formation : Formation (exchanged (tree s₀ i)) (onto (exchanged (tree s₀ i)) (diagrams_of s₀ count)) r s heads links
-  pub noted : (j n : ℕ) → r ≡ FormedRow j n → Noted s memo n
+  pub noted : (j n : ℕ) → r ≡ Some (j, n) → Noted s memo n
 
 -- a test whose label is below a leaf's mark
 pub record Testable (t : Test) : Type 0 where

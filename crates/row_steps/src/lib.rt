@@ -1,4 +1,5 @@
 // The row step in a working space. What it is stands in regression.
+// A step answers the result's row and the rows then; or why it is refused, and the rows then.
 #![tactic(auto)]
 
 ghost use Rattle.std.specs.Prelude.{◌≡◌, ◌-◌, ◌<◌};
@@ -15,35 +16,24 @@ use apply::Operation;
 use combine::Joined;
 use label::{Label, Test};
 use refusal::Refusal;
-use store::Formed;
 use table::Row;
 
-// What a step in the working space answers: the result's row and the rows then; or why it is refused, and the rows then.
-#[derive(Clone, Copy)]
-pub enum Stepped {
-    Row(usize, usize),
-    Refused(Refusal, usize),
-}
-
 // Whether a step was refused for pairs.
-pub fn is_crowded(r: Stepped) -> bool
+pub fn is_crowded(r: Result<(usize, usize), (Refusal, usize)>) -> bool
     ensures { result ≡ is_crowded r }
 {
-    match r {
-        Stepped::Row(_, _) => false,
-        Stepped::Refused(why, _) => why.number() == Refusal::Pairs.number(),
-    }
+    matches!(r, Err((Refusal::Pairs, _)))
 }
 
 // What a combination in a space of `count` rows says as a step.
-fn told(r: Joined, count: usize) -> Stepped
+fn told(r: Joined, count: usize) -> Result<(usize, usize), (Refusal, usize)>
     ensures { result ≡ told_as count r }
 {
     match r {
-        Joined::At(row, rows, _) => Stepped::Row(row, rows),
-        Joined::TooManyPairs => Stepped::Refused(Refusal::Pairs, count),
-        Joined::TooHighValue => Stepped::Refused(Refusal::Value, count),
-        Joined::NoRoom => Stepped::Refused(Refusal::Space, diagram::SPACE_ROWS),
+        Joined::At(row, rows, _) => Ok((row, rows)),
+        Joined::TooManyPairs => Err((Refusal::Pairs, count)),
+        Joined::TooHighValue => Err((Refusal::Value, count)),
+        Joined::NoRoom => Err((Refusal::Space, diagram::SPACE_ROWS)),
     }
 }
 
@@ -59,13 +49,15 @@ fn join(
     heads: &mut [u16],
     links: &mut [u16],
     count: usize,
-) -> Stepped
+) -> Result<(usize, usize), (Refusal, usize)>
     requires ready { Ready plan.old index.old limit space.old heads.old links.old count }
     requires two { Two count i j }
     ensures { Ran limit (combine op (tree space.old i) (tree space.old j)) space.old count result space.new heads.new links.new index.new }
 {
-    let r = combine::join_rows(plan, index, limit, i, j, op, space, heads, links, count);
-    told(r, count)
+    told(
+        combine::join_rows(plan, index, limit, i, j, op, space, heads, links, count),
+        count,
+    )
 }
 
 // Forms a branch of two leaves.
@@ -77,24 +69,20 @@ fn form_pair(
     label: u64,
     high: u64,
     low: u64,
-) -> Formed
+) -> Option<(usize, usize)>
     requires holds { Holds space.old heads.old links.old count }
     requires label_lt_leaf_mark { label < leaf_mark }
     ensures { Formation (branch label (leaf high) (leaf low)) (onto (branch label (leaf high) (leaf low)) (diagrams_of space.old count)) result space.new heads.new links.new }
 {
-    let Formed::Row(t, n) = store::leaf(space, heads, links, count, high) else {
-        return Formed::Full;
-    };
-    let Formed::Row(f, m) = store::leaf(space, heads, links, n, low) else {
-        return Formed::Full;
-    };
+    let (t, n) = store::leaf(space, heads, links, count, high)?;
+    let (f, m) = store::leaf(space, heads, links, n, low)?;
     store::form(
         space,
         heads,
         links,
         m,
         Row {
-            label: label,
+            label,
             high: t as u64,
             low: f as u64,
         },
@@ -105,22 +93,18 @@ fn form_pair(
 fn flipped(v: u64) -> u64
     ensures { result ≡ 1 - v }
 {
-    if v == 0 {
-        return 1;
-    }
-    0
+    u64::from(v == 0)
 }
 
 // Notes the row that was formed for row i.
-fn note(memo: &mut [u16], i: usize, r: Formed) -> Formed
+fn note(memo: &mut [u16], i: usize, r: Option<(usize, usize)>) -> Option<(usize, usize)>
     requires { Notable memo.old i r }
     ensures value { result ≡ r }
     ensures memo_after { memo.new ≡ noted_for i r memo.old }
 {
-    let Formed::Row(j, _) = r else {
-        return r;
-    };
-    memo[i] = (j + 1) as u16;
+    if let Some((j, _)) = r {
+        memo[i] = (j + 1) as u16;
+    }
     r
 }
 
@@ -132,25 +116,21 @@ fn exchange(
     memo: &mut [u16],
     count: usize,
     i: usize,
-) -> Formed
+) -> Option<(usize, usize)>
     requires { Exchangeable space.old heads.old links.old memo.old count i }
     ensures { Exchanged space.old count i result space.new heads.new links.new memo.new }
 {
     let known = basics::wide(memo[i]);
     if known != 0 {
-        return Formed::Row(known - 1, count);
+        return Some((known - 1, count));
     }
     let row = table::row_at(space, i);
     if row.label == Label::LEAF {
         let r = store::leaf(space, heads, links, count, flipped(row.high));
         return note(memo, i, r);
     }
-    let Formed::Row(high, n) = exchange(space, heads, links, memo, count, row.high as usize) else {
-        return Formed::Full;
-    };
-    let Formed::Row(low, m) = exchange(space, heads, links, memo, n, row.low as usize) else {
-        return Formed::Full;
-    };
+    let (high, n) = exchange(space, heads, links, memo, count, row.high as usize)?;
+    let (low, m) = exchange(space, heads, links, memo, n, row.low as usize)?;
     let r = store::form(
         space,
         heads,
@@ -172,7 +152,7 @@ fn one_minus(
     links: &mut [u16],
     count: usize,
     test: usize,
-) -> Formed
+) -> Option<(usize, usize)>
     requires holds { Holds space.old heads.old links.old count }
     requires test_lt_count { test < count }
     ensures { Formation (exchanged (tree space.old test)) (onto (exchanged (tree space.old test)) (diagrams_of space.old count)) result space.new heads.new links.new }
@@ -194,12 +174,12 @@ fn split_step(
     other: usize,
     high: usize,
     low: usize,
-) -> Stepped
+) -> Result<(usize, usize), (Refusal, usize)>
     requires ready { Ready plan.old index.old limit space.old heads.old links.old count }
     requires four { Four count test other high low }
     ensures { Ran limit (split_step (tree space.old test) (tree space.old other) (tree space.old high) (tree space.old low)) space.old count result space.new heads.new links.new index.new }
 {
-    let a = join(
+    let (left, m) = join(
         plan,
         index,
         limit,
@@ -210,11 +190,8 @@ fn split_step(
         heads,
         links,
         count,
-    );
-    let Stepped::Row(left, m) = a else {
-        return a;
-    };
-    let b = join(
+    )?;
+    let (right, k) = join(
         plan,
         index,
         limit,
@@ -225,10 +202,7 @@ fn split_step(
         heads,
         links,
         m,
-    );
-    let Stepped::Row(right, k) = b else {
-        return b;
-    };
+    )?;
     join(
         plan,
         index,
@@ -255,14 +229,15 @@ pub fn row_step(
     test: usize,
     high: usize,
     low: usize,
-) -> Stepped
+) -> Result<(usize, usize), (Refusal, usize)>
     requires ready { Ready plan.old index.old limit space.old heads.old links.old count }
     requires three { Three count test high low }
     ensures { Ran limit (row_step (tree space.old test) (tree space.old high) (tree space.old low)) space.old count result space.new heads.new links.new index.new }
 {
-    let Formed::Row(other, n) = one_minus(space, heads, links, count, test) else {
-        return Stepped::Refused(Refusal::Space, diagram::SPACE_ROWS);
-    };
+    let (other, n) = one_minus(space, heads, links, count, test).ok_or((
+        Refusal::Space,
+        diagram::SPACE_ROWS,
+    ))?;
     split_step(
         plan, index, limit, space, heads, links, n, test, other, high, low,
     )
@@ -277,7 +252,7 @@ fn form_leaves(
     test: Test,
     high: u64,
     low: u64,
-) -> Formed
+) -> Option<(usize, usize)>
     requires holds { Holds space.old heads.old links.old count }
     requires testable { Testable test }
     ensures { Formation (test_leaves test high low) (onto (test_leaves test high low) (diagrams_of space.old count)) result space.new heads.new links.new }
@@ -295,7 +270,7 @@ pub fn form_test(
     links: &mut [u16],
     count: usize,
     test: Test,
-) -> Formed
+) -> Option<(usize, usize)>
     requires holds { Holds space.old heads.old links.old count }
     requires testable { Testable test }
     ensures { Formation (test_diagram test) (onto (test_diagram test) (diagrams_of space.old count)) result space.new heads.new links.new }
@@ -310,7 +285,7 @@ fn form_other(
     links: &mut [u16],
     count: usize,
     test: Test,
-) -> Formed
+) -> Option<(usize, usize)>
     requires holds { Holds space.old heads.old links.old count }
     requires testable { Testable test }
     ensures { Formation (exchanged (test_diagram test)) (onto (exchanged (test_diagram test)) (diagrams_of space.old count)) result space.new heads.new links.new }
@@ -330,18 +305,20 @@ pub fn test_step(
     test: Test,
     high: usize,
     low: usize,
-) -> Stepped
+) -> Result<(usize, usize), (Refusal, usize)>
     requires ready { Ready plan.old index.old limit space.old heads.old links.old count }
     requires testable { Testable test }
     requires two { Two count high low }
     ensures { Ran limit (row_step (test_diagram test) (tree space.old high) (tree space.old low)) space.old count result space.new heads.new links.new index.new }
 {
-    let Formed::Row(t, n) = form_test(space, heads, links, count, test) else {
-        return Stepped::Refused(Refusal::Space, diagram::SPACE_ROWS);
-    };
-    let Formed::Row(other, m) = form_other(space, heads, links, n, test) else {
-        return Stepped::Refused(Refusal::Space, diagram::SPACE_ROWS);
-    };
+    let (t, n) = form_test(space, heads, links, count, test).ok_or((
+        Refusal::Space,
+        diagram::SPACE_ROWS,
+    ))?;
+    let (other, m) = form_other(space, heads, links, n, test).ok_or((
+        Refusal::Space,
+        diagram::SPACE_ROWS,
+    ))?;
     split_step(
         plan, index, limit, space, heads, links, m, t, other, high, low,
     )

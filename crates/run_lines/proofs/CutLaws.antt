@@ -17,7 +17,7 @@ use Rattle.answers.specs.declared.Answer.TheVariants as A
 use Rattle.text.specs.declared.Kind.TheVariants as K
 use Rattle.session.specs.Running.{cut_is}
 use Rattle.session.specs.Replies.{call_says, done, words_of}
-use Rattle.steps.specs.Steps.{Result}
+use Rattle.steps.specs.Steps.{ResultIn}
 use Rattle.memory.specs.declared.Numbers.{Numbers}
 use Rattle.memory.specs.Inner.{Ready, Answers}
 use Rattle.memory.specs.Memory.{Memory, session_of}
@@ -36,7 +36,7 @@ module _ {s : List ℕ} (number : ℕ) {n : Numbers} {w : Memory} (r : Ready K.C
   unfolding session_of done call
   says = refl
 
-  left-answers : {k : ℕ} {e : Edge} {m : ℕ} → q ≡ Done k e m → {value : List ℕ} → Result w.arities (cut_outcome w.arities D) m value → length value ≡ length w.value
+  left-answers : {k : ℕ} {e : Edge} {m : ℕ} → q ≡ Done k e m → {value : List ℕ} → ResultIn w.arities (cut_outcome w.arities D) m value → length value ≡ length w.value
       → Answers K.Cut s number n w (record { numbers = leaving n m; answer = A.Cut k e m }) (with_value w value)
   left-answers d x l = replace-answers refl r told (cut_outcome w.arities D) says x l (ap cut_is (sym d ∙ a))
 
@@ -44,7 +44,7 @@ module _ {s : List ℕ} (number : ℕ) {n : Numbers} {w : Memory} (r : Ready K.C
   stays-answers {x} d = call-refused refl r told n.held.steps (cut_outcome w.arities D) says (cut-refused w.arities D x (sym a ∙ d))
 
 module _ {number : ℕ} {n : Numbers} {ar value : List ℕ} {q : Cut} (a : q ≡ diagram_answer ar (diagram_of (take (n.held.rows * 3) value))) where
-  pub cut_left : {k : ℕ} {e : Edge} {m : ℕ} → q ≡ Done k e m → {value' : List ℕ} → Result ar (cut_outcome ar (diagram_of (take (n.held.rows * 3) value))) m value'
+  pub cut_left : {k : ℕ} {e : Edge} {m : ℕ} → q ≡ Done k e m → {value' : List ℕ} → ResultIn ar (cut_outcome ar (diagram_of (take (n.held.rows * 3) value))) m value'
       → length value' ≡ length value → {n' : Numbers} → n' ≡ leaving n m → CutAnswered number n ar value (record { numbers = n'; answer = A.Cut k e m }) value'
   cut_left {k} {e} {m} d {value'} x l {n'} p = subst (λ (i : Numbers). CutAnswered number n ar value (record { numbers = i; answer = A.Cut k e m }) value') (sym p) (record {
     says = λ s names listings table state r. left-answers number r a d x l;

@@ -21,7 +21,7 @@ use Rattle.session.specs.Place.{rule_of}
 use Rattle.session.specs.Session.{with_held}
 use Rattle.session.specs.Replies.{Reply, call_says, done, words_of}
 use Rattle.model.specs.Layout.{model_of}
-use Rattle.steps.specs.Steps.{Result}
+use Rattle.steps.specs.Steps.{ResultIn}
 use Rattle.planner.specs.declared.RunNumbers.{RunNumbers}
 use Rattle.planner.specs.Run.{held_in}
 use Rattle.memory.specs.declared.Numbers.{Numbers}
@@ -62,7 +62,7 @@ running-stored s h value e r g = record {
 module _ {k : Kind} {s : List ℕ} {number : ℕ} {n : Numbers} {w : Memory} (p : rule_of k Model ≡ Misplaced) (r : Ready k s n w) (says : Value → Answer) (j : ℕ)
     (o : Outcome Diagram) (y : done (session_of n w) number k (words_of k s) ≡ call_says (session_of n w) number says (held_with j o)) where
   -- accepted: the words hold its m rows, and S^j stands beside them
-  pub call-answers : {m q : ℕ} {value : List ℕ} → Result w.arities o m value → q ≡ scale (model_of w.arities w.listings w.table n.head) ^ j → j ≤ most_steps
+  pub call-answers : {m q : ℕ} {value : List ℕ} → ResultIn w.arities o m value → q ≡ scale (model_of w.arities w.listings w.table n.head) ^ j → j ≤ most_steps
       → length value ≡ length w.value → {a : Answer} → a ≡ says (record { diagram = diagram_of (take (m * 3) value); steps = j })
       → Answers k s number n w (record { numbers = running_with n (record { rows = m; steps = j; power = q }); answer = a }) (with_value w value)
   unfolding session_of
@@ -96,7 +96,7 @@ leaving n m = running_with n (record { rows = m; steps = n.held.steps; power = n
 -- a cut or a reduction is accepted
 pub replace-answers : {k : Kind} {s : List ℕ} {number : ℕ} {n : Numbers} {w : Memory} → rule_of k Model ≡ Misplaced → Ready k s n w → (says : Value → Answer)
     (o : Outcome Diagram) → done (session_of n w) number k (words_of k s) ≡ call_says (session_of n w) number says (held_with n.held.steps o)
-    → {m : ℕ} {value : List ℕ} → Result w.arities o m value → length value ≡ length w.value
+    → {m : ℕ} {value : List ℕ} → ResultIn w.arities o m value → length value ≡ length w.value
     → {a : Answer} → a ≡ says (record { diagram = diagram_of (take (m * 3) value); steps = n.held.steps })
     → Answers k s number n w (record { numbers = leaving n m; answer = a }) (with_value w value)
 replace-answers {n = n} p r says o y x l e = let h = run-holding p r in call-answers p r says n.held.steps o y x h.power h.steps l e

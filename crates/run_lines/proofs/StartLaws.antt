@@ -19,8 +19,6 @@ use Rattle.model.specs.Layout.{model_of}
 use Rattle.planner.specs.declared.RunNumbers.{RunNumbers}
 use Rattle.planner.specs.Inner.{Holds, Takeable, Taken}
 use Rattle.planner.proofs.HeldLaws.{laid-takeable, reward-holds}
-use Rattle.weights.specs.declared.Weighed.{Weighed}
-use Rattle.weights.specs.declared.Weighed.TheVariants.{Done, Refused}
 use Rattle.weights.specs.Weighing.{weighed_as, Weighable}
 use Rattle.memory.specs.declared.Numbers.{Numbers}
 use Rattle.memory.specs.Inner.{Ready, Answers}
@@ -30,6 +28,7 @@ use Rattle.memory.specs.StoredLaws.{stored-reward}
 use Rattle.run_lines.specs.Lines.{running_with, StartTask, StartAnswered}
 use Rattle.run_lines.specs.ReadyLaws.{start-reward}
 use Rattle.run_lines.proofs.HoldLaws.{with_value, running-stored}
+use Rattle.std.specs.Prelude.{Err, Ok, Result}
 
 -- ===== What its calls require =====
 
@@ -53,11 +52,11 @@ module _ (σ τ : Session) (number : ℕ) where
   abbrev line : Outcome (Unit {0}) → Reply
   line o = quietly σ number (λ ρ. ρ) (and_then o (λ u. ok τ))
 
-  passed : (o : Outcome (Unit {0})) → weighed_as o ≡ Done → (A.Nothing ≡ (line o).answer) × (τ ≡ (line o).session)
+  passed : (o : Outcome (Unit {0})) → weighed_as o ≡ Ok tt → (A.Nothing ≡ (line o).answer) × (τ ≡ (line o).session)
   passed (ok u) e = (refl, refl)
   passed (refused x) e = let z : ◌≡◌ {A = ℕ} 0 1 = cc in absurd (omega arith)
 
-  failed : (o : Outcome (Unit {0})) {x : Refusal} → weighed_as o ≡ Refused x → (A.Refused x number ≡ (line o).answer) × (σ ≡ (line o).session)
+  failed : (o : Outcome (Unit {0})) {x : Refusal} → weighed_as o ≡ Err x → (A.Refused x number ≡ (line o).answer) × (σ ≡ (line o).session)
   failed (ok u) e = let z : ◌≡◌ {A = ℕ} 0 1 = cc in absurd (omega arith)
   failed (refused y) {x} e = let z : x ≡ y = cc in (ap (λ (r : Refusal). A.Refused r number) z, refl)
 
@@ -68,7 +67,7 @@ abbrev first : ℕ → RunNumbers
 first m = record { rows = m; steps = 0; power = 1 }
 
 module _ {s : List ℕ} (number : ℕ) {n : Numbers} {w : Memory} (r : Ready K.Start s n w) {work : List ℕ}
-    (t : StartTask n w.arities w.listings w.table w.value work) {q : Weighed}
+    (t : StartTask n w.arities w.listings w.table w.value work) {q : Result (Unit {0}) Refusal}
     (a : q ≡ weighed_as (weighed w.arities n.head.total (model_of w.arities w.listings w.table n.head).actions)) where
   abbrev M : Model
   M = model_of w.arities w.listings w.table n.head
@@ -79,7 +78,7 @@ module _ {s : List ℕ} (number : ℕ) {n : Numbers} {w : Memory} (r : Ready K.S
   abbrev T : Session
   T = with_held (session_of n w) Run (begin M)
 
-  begins-answers : q ≡ Done → {m : ℕ} {value : List ℕ} → Taken w.listings n.head m value → length value ≡ length w.value
+  begins-answers : q ≡ Ok tt → {m : ℕ} {value : List ℕ} → Taken w.listings n.head m value → length value ≡ length w.value
       → Answers K.Start s number n w (record { numbers = running_with n (first m); answer = A.Nothing }) (with_value w value)
   unfolding session_of done start_line model_of
   begins-answers e {m} {value} k l =
@@ -98,19 +97,19 @@ module _ {s : List ℕ} (number : ℕ) {n : Numbers} {w : Memory} (r : Ready K.S
         carried = carried-run refl refl;
       }
 
-  fails-answers : {x : Refusal} → q ≡ Refused x → Answers K.Start s number n w (record { numbers = n; answer = A.Refused x number }) w
+  fails-answers : {x : Refusal} → q ≡ Err x → Answers K.Start s number n w (record { numbers = n; answer = A.Refused x number }) w
   unfolding session_of done start_line model_of
   fails-answers e =
       let p = failed (session_of n w) T number O (sym a ∙ e) in
       record { answer = p.0; session = p.1; stored = r.stored; indexed = r.indexed; carried = carried_same n w }
 
-module _ {number : ℕ} {n : Numbers} {ar listings table value work : List ℕ} (t : StartTask n ar listings table value work) {q : Weighed}
+module _ {number : ℕ} {n : Numbers} {ar listings table value work : List ℕ} (t : StartTask n ar listings table value work) {q : Result (Unit {0}) Refusal}
     (a : q ≡ weighed_as (weighed ar n.head.total (model_of ar listings table n.head).actions)) where
-  pub start-begins : q ≡ Done → {m : ℕ} {value' : List ℕ} → Taken listings n.head m value' → length value' ≡ length value → {n' : Numbers}
+  pub start-begins : q ≡ Ok tt → {m : ℕ} {value' : List ℕ} → Taken listings n.head m value' → length value' ≡ length value → {n' : Numbers}
       → n' ≡ running_with n (first m) → StartAnswered number n ar listings table value (record { numbers = n'; answer = A.Nothing }) value'
   start-begins e {m} {value'} k l {n'} u = subst
       (λ (x : Numbers). StartAnswered number n ar listings table value (record { numbers = x; answer = A.Nothing }) value') (sym u)
       (record { says = λ s names state r. begins-answers number r t a e k l })
 
-  pub start-fails : {x : Refusal} → q ≡ Refused x → StartAnswered number n ar listings table value (record { numbers = n; answer = A.Refused x number }) value
+  pub start-fails : {x : Refusal} → q ≡ Err x → StartAnswered number n ar listings table value (record { numbers = n; answer = A.Refused x number }) value
   start-fails e = record { says = λ s names state r. fails-answers number r t a e }

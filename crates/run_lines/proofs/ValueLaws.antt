@@ -14,8 +14,6 @@ use Rattle.diagram.specs.Listing.{diagram_of}
 use Rattle.diagram.specs.Listings.{is-listing-diagram}
 use Rattle.state.specs.State.{meaning}
 use Rattle.state.specs.Lent.{fact_words, is_state}
-use Rattle.state.specs.declared.Valued.{Valued}
-use Rattle.state.specs.declared.Valued.TheVariants.{Value, Refused}
 use Rattle.minimum.specs.Number.{number}
 use Rattle.elimination.specs.Answer.{is_too_large}
 use Rattle.fact_index.specs.Inner.{indexed_count, Indexed}
@@ -36,6 +34,7 @@ use Rattle.memory.specs.Memory.{Memory, session_of}
 use Rattle.memory.specs.CarriedLaws.{carried_same}
 use Rattle.memory.specs.RunLaws.{run-holding}
 use Rattle.run_lines.specs.Lines.{ValueTask, ValueAnswered}
+use Rattle.std.specs.Prelude.{Err, Ok, Result}
 
 -- ===== What is lent =====
 
@@ -58,9 +57,9 @@ module _ {n : Numbers} {ar state value work : List ℕ} (t : ValueTask n ar stat
 
 -- ===== The value call reads the value =====
 
-abbrev valued_as : Outcome ℕ → Valued
-valued_as (ok v) = Value v
-valued_as (refused x) = Refused x
+abbrev valued_as : Outcome ℕ → Result ℕ Refusal
+valued_as (ok v) = Ok v
+valued_as (refused x) = Err x
 
 -- 15 where it is judged
 value-reads : (ar ws : List ℕ) (l : Live) → is_listing ar ws ≡ true
@@ -71,13 +70,13 @@ value-reads ar ws l i =
     ∙ ap (λ (xs : List ℕ). valued_as (refuse_if (is_too_large ar (state_in ar l) [] xs) Valuations (ok (number (state_in ar l) [] (meaning ar (diagram_of ws))))))
     (sym (is-listing-diagram ar ws i))
   where
-    last : (d : Bool) (v : ℕ) → cond d (Refused Valuations) (Value v) ≡ valued_as (refuse_if d Valuations (ok v))
+    last : (d : Bool) (v : ℕ) → cond d (Err Valuations) (Ok v) ≡ valued_as (refuse_if d Valuations (ok v))
     last true v = refl
     last false v = refl
 
 module _ {s : List ℕ} {n : Numbers} {w : Memory} (r : Ready K.Value s n w) where
   lent_reads : {ps : List ℕ} → ps ≡ part w.state facts_base (n.live.facts * fact_words)
-      → {q : Valued} → q ≡ bound_answer w.arities (take (n.held.rows * 3) w.value) n.live.objects (take constant_count w.state) ps []
+      → {q : Result ℕ Refusal} → q ≡ bound_answer w.arities (take (n.held.rows * 3) w.value) n.live.objects (take constant_count w.state) ps []
       → q ≡ valued_as (value_read w.arities (live_of w.state n.live) (diagram_of (take (n.held.rows * 3) w.value)))
   unfolding live_of
   lent_reads e a =
@@ -88,12 +87,12 @@ module _ {s : List ℕ} {n : Numbers} {w : Memory} (r : Ready K.Value s n w) whe
 -- ===== What the line is answered =====
 
 module _ (σ : Session) (number : ℕ) where
-  read_answer : (o : Outcome ℕ) {v power : ℕ} → valued_as o ≡ Value v → power ≡ scale σ.model ^ σ.held.steps
+  read_answer : (o : Outcome ℕ) {v power : ℕ} → valued_as o ≡ Ok v → power ≡ scale σ.model ^ σ.held.steps
       → A.Value v σ.held.steps power ≡ (value_says σ number o).answer
   read_answer (ok u) {v} e p = let z : v ≡ u = cc in ap₂ (λ (x y : ℕ). A.Value x σ.held.steps y) z p
   read_answer (refused x) e p = let z : ◌≡◌ {A = ℕ} 0 1 = cc in absurd (omega arith)
 
-  unread-answer : (o : Outcome ℕ) {x : Refusal} → valued_as o ≡ Refused x → A.Refused x number ≡ (value_says σ number o).answer
+  unread-answer : (o : Outcome ℕ) {x : Refusal} → valued_as o ≡ Err x → A.Refused x number ≡ (value_says σ number o).answer
   unread-answer (ok v) e = let z : ◌≡◌ {A = ℕ} 0 1 = cc in absurd (omega arith)
   unread-answer (refused y) {x} e = let z : x ≡ y = cc in ap (λ (r : Refusal). A.Refused r number) z
 
@@ -101,12 +100,12 @@ module _ (σ : Session) (number : ℕ) where
   same-session (ok v) = refl
   same-session (refused x) = refl
 
-module _ {s : List ℕ} (number : ℕ) {n : Numbers} {w : Memory} (r : Ready K.Value s n w) {q : Valued}
+module _ {s : List ℕ} (number : ℕ) {n : Numbers} {w : Memory} (r : Ready K.Value s n w) {q : Result ℕ Refusal}
     (a : q ≡ valued_as (value_read w.arities (live_of w.state n.live) (diagram_of (take (n.held.rows * 3) w.value)))) where
   abbrev O : Outcome ℕ
   O = value_read w.arities (live_of w.state n.live) (diagram_of (take (n.held.rows * 3) w.value))
 
-  read-answers : {v : ℕ} → q ≡ Value v → Answers K.Value s number n w (record { numbers = n; answer = A.Value v n.held.steps n.held.power }) w
+  read-answers : {v : ℕ} → q ≡ Ok v → Answers K.Value s number n w (record { numbers = n; answer = A.Value v n.held.steps n.held.power }) w
   unfolding session_of done
   read-answers e = record {
     answer = read_answer (session_of n w) number O (sym a ∙ e) (run-holding refl r).power;
@@ -116,7 +115,7 @@ module _ {s : List ℕ} (number : ℕ) {n : Numbers} {w : Memory} (r : Ready K.V
     carried = carried_same n w;
   }
 
-  unread-answers : {x : Refusal} → q ≡ Refused x → Answers K.Value s number n w (record { numbers = n; answer = A.Refused x number }) w
+  unread-answers : {x : Refusal} → q ≡ Err x → Answers K.Value s number n w (record { numbers = n; answer = A.Refused x number }) w
   unfolding session_of done
   unread-answers e = record {
     answer = unread-answer (session_of n w) number O (sym a ∙ e);
@@ -126,10 +125,10 @@ module _ {s : List ℕ} (number : ℕ) {n : Numbers} {w : Memory} (r : Ready K.V
     carried = carried_same n w;
   }
 
-module _ {number : ℕ} {n : Numbers} {ar state value ps : List ℕ} (f : ps ≡ part state facts_base (n.live.facts * fact_words)) {q : Valued}
+module _ {number : ℕ} {n : Numbers} {ar state value ps : List ℕ} (f : ps ≡ part state facts_base (n.live.facts * fact_words)) {q : Result ℕ Refusal}
     (a : q ≡ bound_answer ar (take (n.held.rows * 3) value) n.live.objects (take constant_count state) ps []) where
-  pub value_read_lem : {v : ℕ} → q ≡ Value v → ValueAnswered number n ar state value (record { numbers = n; answer = A.Value v n.held.steps n.held.power })
+  pub value_read_lem : {v : ℕ} → q ≡ Ok v → ValueAnswered number n ar state value (record { numbers = n; answer = A.Value v n.held.steps n.held.power })
   value_read_lem e = record { says = λ s names listings table r. read-answers number r (lent_reads r f a) e }
 
-  pub value-refused : {x : Refusal} → q ≡ Refused x → ValueAnswered number n ar state value (record { numbers = n; answer = A.Refused x number })
+  pub value-refused : {x : Refusal} → q ≡ Err x → ValueAnswered number n ar state value (record { numbers = n; answer = A.Refused x number })
   value-refused e = record { says = λ s names listings table r. unread-answers number r (lent_reads r f a) e }

@@ -10,30 +10,18 @@ ghost use Rattle.run_lines.specs.Lines.{StartAnswered, ValueAnswered, BackupAnsw
 use answers::Answer;
 use cutting::Cut;
 use memory::{Numbers, Said};
-use planner::{Backed, RunNumbers};
-use reduction::Reduced;
+use planner::RunNumbers;
 use refusal::Refusal;
 use session::Part;
-use spelling::Measured;
-use state::Valued;
-use weights::Weighed;
 
 // The numbers once the run holds `held`.
 fn running(n: Numbers, held: RunNumbers) -> Numbers
     ensures { result ≡ running_with n held }
 {
-    let counts = n.counts;
-    let head = n.head;
-    let live = n.live;
     Numbers {
         part: Part::Run,
-        total: n.total,
-        discount: n.discount,
-        reward: n.reward,
-        counts: counts,
-        head: head,
-        live: live,
-        held: held,
+        held,
+        ..n
     }
 }
 
@@ -50,13 +38,11 @@ pub fn start(
     requires { StartTask n arities.now listings.now table.now value.old work.old }
     ensures { StartAnswered number n arities.now listings.now table.now value.old result value.new }
 {
-    let head = n.head;
-    let w = weights::weigh(arities, listings, table, head, work);
-    match w {
-        Weighed::Done => {
-            let rows = planner::take_reward(listings, head, value);
+    match weights::weigh(arities, listings, table, n.head, work) {
+        Ok(()) => {
+            let rows = planner::take_reward(listings, n.head, value);
             let first = RunNumbers {
-                rows: rows,
+                rows,
                 steps: 0,
                 power: 1,
             };
@@ -65,7 +51,7 @@ pub fn start(
                 answer: Answer::Nothing,
             }
         }
-        Weighed::Refused(why) => Said {
+        Err(why) => Said {
             numbers: n,
             answer: Answer::Refused(why, number),
         },
@@ -84,25 +70,22 @@ pub fn value(
     requires { ValueTask n arities.now state.now value.now work.old }
     ensures { ValueAnswered number n arities.now state.now value.now result }
 {
-    let held = n.held;
-    let live = n.live;
-    let rows = held.rows;
-    let end = facts::FACTS_BASE + live.facts * facts::FACT_WORDS;
+    let end = facts::FACTS_BASE + n.live.facts * facts::FACT_WORDS;
     let v = valuing::value_indexed(
         arities,
-        &value[..rows * 3],
-        live.objects,
+        &value[..n.held.rows * 3],
+        n.live.objects,
         &state[..facts::PLACED],
         &state[facts::FACTS_BASE..end],
         &state[facts::INDEX_BASE..facts::WORDS],
         work,
     );
     match v {
-        Valued::Value(x) => Said {
+        Ok(x) => Said {
             numbers: n,
-            answer: Answer::Value(x, held.steps, held.power),
+            answer: Answer::Value(x, n.held.steps, n.held.power),
         },
-        Valued::Refused(why) => Said {
+        Err(why) => Said {
             numbers: n,
             answer: Answer::Refused(why, number),
         },
@@ -122,26 +105,20 @@ pub fn backup(
     requires { BackupTask n arities.now listings.now table.now value.old work.old }
     ensures { BackupAnswered number n arities.now listings.now table.now value.old result value.new }
 {
-    let head = n.head;
     let held = n.held;
-    let k = held.steps;
-    let power = held.power;
-    let rows = held.rows;
-    let r = planner::backup(arities, listings, table, head, k, power, value, rows, work);
+    let r = planner::backup(
+        arities, listings, table, n.head, held.steps, held.power, value, held.rows, work,
+    );
     match r {
-        Backed::Done(m, scale) => {
-            let steps = k + 1;
-            let next = RunNumbers {
-                rows: m,
-                steps: steps,
-                power: scale,
-            };
+        Ok((rows, power)) => {
+            let steps = held.steps + 1;
+            let next = RunNumbers { rows, steps, power };
             Said {
                 numbers: running(n, next),
-                answer: Answer::Backup(steps, m),
+                answer: Answer::Backup(steps, rows),
             }
         }
-        Backed::Refused(why) => Said {
+        Err(why) => Said {
             numbers: n,
             answer: Answer::Refused(why, number),
         },
@@ -154,19 +131,11 @@ pub fn cut(number: u64, n: Numbers, arities: &[u64], value: &mut [u64], work: &m
     ensures { CutAnswered number n arities.now value.old result value.new }
 {
     let mut left = [0u64; diagram::RESULT_WORDS];
-    let held = n.held;
-    let rows = held.rows;
-    let steps = held.steps;
-    let power = held.power;
-    let r = cut::cut_checked(arities, &value[..rows * 3], &mut left, work);
+    let r = cut::cut_checked(arities, &value[..n.held.rows * 3], &mut left, work);
     match r {
         Cut::Done(k, edge, m) => {
             write::copy(&left, m, value);
-            let next = RunNumbers {
-                rows: m,
-                steps: steps,
-                power: power,
-            };
+            let next = RunNumbers { rows: m, ..n.held };
             Said {
                 numbers: running(n, next),
                 answer: Answer::Cut(k, edge, m),
@@ -185,25 +154,17 @@ pub fn reduce(number: u64, n: Numbers, arities: &[u64], value: &mut [u64], work:
     ensures { ReduceAnswered number n arities.now value.old result value.new }
 {
     let mut left = [0u64; diagram::RESULT_WORDS];
-    let held = n.held;
-    let rows = held.rows;
-    let steps = held.steps;
-    let power = held.power;
-    let r = reduce::reduce_checked(arities, &value[..rows * 3], &mut left, work);
+    let r = reduce::reduce_checked(arities, &value[..n.held.rows * 3], &mut left, work);
     match r {
-        Reduced::Done(m) => {
+        Ok(m) => {
             write::copy(&left, m, value);
-            let next = RunNumbers {
-                rows: m,
-                steps: steps,
-                power: power,
-            };
+            let next = RunNumbers { rows: m, ..n.held };
             Said {
                 numbers: running(n, next),
                 answer: Answer::Reduce(m),
             }
         }
-        Reduced::Refused(why) => Said {
+        Err(why) => Said {
             numbers: n,
             answer: Answer::Refused(why, number),
         },
@@ -214,10 +175,9 @@ pub fn reduce(number: u64, n: Numbers, arities: &[u64], value: &mut [u64], work:
 pub fn show(n: Numbers) -> Said
     ensures { ShowAnswered n result }
 {
-    let held = n.held;
     Said {
         numbers: n,
-        answer: Answer::Show(held.rows),
+        answer: Answer::Show(n.held.rows),
     }
 }
 
@@ -226,22 +186,19 @@ pub fn text(number: u64, n: Numbers, names: &[u64], arities: &[u64], value: &[u6
     requires { TextTask n names.now arities.now value.now }
     ensures { TextAnswered number n names.now arities.now value.now result }
 {
-    let counts = n.counts;
-    let held = n.held;
-    let rows = held.rows;
     let m = spelling::measure(
         arities,
         names,
-        counts.constants,
-        counts.predicates,
-        &value[..rows * 3],
+        n.counts.constants,
+        n.counts.predicates,
+        &value[..n.held.rows * 3],
     );
     match m {
-        Measured::Bytes(bytes) => Said {
+        Some(bytes) => Said {
             numbers: n,
             answer: Answer::Text(bytes),
         },
-        Measured::TooLong => Said {
+        None => Said {
             numbers: n,
             answer: Answer::Refused(Refusal::Length, number),
         },

@@ -3,7 +3,7 @@ use mathlib.Core.Path.{◌≡◌, ap, subst, ◌∙◌}
 use mathlib.Core.Logic.{⊎_elim}
 use mathlib.Core.Bool.{true, false}
 use mathlib.Core.List.{List, [], ◌∷◌, ◌++◌}
-use Prim.Native.Nat.{ℕ, suc, ◌+◌, ◌-◌, ◌*◌, ◌/◌, ◌≤◌, ◌<◌, max}
+use Prim.Native.Nat.{ℕ, suc, ◌+◌, ◌-◌, ◌*◌, ◌/◌, ◌≤◌, ◌<◌, max, min}
 use native.Mathlib.Omega.{arith}
 use native.Mathlib.Nat.{eq-or-lt_of_le, le_of_suc-le-suc}
 use native.Mathlib.Numerals.{add-one}
@@ -26,11 +26,11 @@ use Rattle.answering.specs.Wrote.{Wrote}
 use Rattle.text.specs.Line.{most_line_bytes, most_open_brackets}
 use Rattle.diagram_form.specs.Form.{Tables, form_bytes, form_length, open_brackets, is_too_long}
 use Rattle.diagram_form.proofs.FormLaws.{form-length}
-use Rattle.spelling.specs.declared.Measured.TheVariants.{Bytes, TooLong}
 use Rattle.spelling.specs.Spelling.{tables_at, measured}
 use Rattle.spelling.specs.Parts.{Spelt, test_text, test_bytes, row_text, most_form_bytes, most_form_brackets, held_bytes, held_open, ByteCounts, OpenCounts}
 use Rattle.spelling.proofs.TestLaws.{test-within}
 use Rattle.spelling.proofs.RowLaws.{spelt-arities, leaf-word, leaf-text, row-parts, high-less, low-less, root-row, root-tree}
+use Rattle.std.specs.Prelude.{None, Some}
 
 row-bytes : (ar : List ℕ) (n : Tables) (ws : List ℕ) (i b : ℕ) → length (row_text ar n ws i b) ≡ form_length ar n (tree ws i) + 1
 unfolding row_text
@@ -90,10 +90,7 @@ module _ {ar names ws : List ℕ} {constants predicates i : ℕ} (g : Spelt ar n
         low_count : get_or bytes low 0 ≡ held_bytes (form_length ar N (tree ws low))
         low_count = c.each low (low-less g r e)
 
-        pub bytes-over : most_form_bytes < q + 2 + get_or bytes high 0 + get_or bytes low 0 → most_form_bytes + 1 ≡ held_bytes (form_length ar N (tree ws i))
-        bytes-over h = omega (arith, branch-bytes, x.behind, high-count, low_count)
-
-        pub bytes-sum : q + 2 + get_or bytes high 0 + get_or bytes low 0 ≤ most_form_bytes → q + 2 + get_or bytes high 0 + get_or bytes low 0 ≡ held_bytes (form_length ar N (tree ws i))
+        pub bytes-sum : {r : ℕ} → r ≡ min (q + 2 + get_or bytes high 0 + get_or bytes low 0) (most_form_bytes + 1) → r ≡ held_bytes (form_length ar N (tree ws i))
         bytes-sum h = omega (arith, branch-bytes, x.behind, high-count, low_count)
 
   module _ (e : get_or ws (i * 3) 0 ≡ leaf_mark → ⊥) {bytes : List ℕ} (c : ByteCounts ar N ws bytes i) where
@@ -138,7 +135,7 @@ module _ {ws : List ℕ} {i : ℕ} (g : Shown ws (row_count ws) (tree ws)) (r : 
       pub open-low : get_or ws (i * 3 + 2) 0 < length brackets
       open-low = omega (arith, open-kids.1, c.room)
 
-      module _ {m most : ℕ} (x : m ≡ max (get_or brackets (get_or ws (i * 3 + 1) 0) 0) (get_or brackets (get_or ws (i * 3 + 2) 0) 0)) (y : most ≡ max 1 m) where
+      module _ {m most : ℕ} (x : m ≡ max (get_or brackets (get_or ws (i * 3 + 1) 0) 0) (get_or brackets (get_or ws (i * 3 + 2) 0) 0)) (y : most ≡ max m 1) where
         abbrev both : ℕ
         both = max (open_brackets (tree ws (get_or ws (i * 3 + 1) 0))) (open_brackets (tree ws (get_or ws (i * 3 + 2) 0)))
 
@@ -147,16 +144,10 @@ module _ {ws : List ℕ} {i : ℕ} (g : Shown ws (row_count ws) (tree ws)) (r : 
             x ∙ (λ t. max (c.each (get_or ws (i * 3 + 1) 0) open-kids.0 t) (c.each (get_or ws (i * 3 + 2) 0) open-kids.1 t))
             ∙ held-max (open_brackets (tree ws (get_or ws (i * 3 + 1) 0))) (open_brackets (tree ws (get_or ws (i * 3 + 2) 0)))
 
-        pub open-over : most_form_brackets ≤ most → most_form_brackets + 1 ≡ held_open (open_brackets (tree ws i))
-        open-over h = rw open-tree (over both m open-both y h)
+        pub open_more : {n : ℕ} → n ≡ min most most_form_brackets → n + 1 ≡ held_open (open_brackets (tree ws i))
+        open_more {n} h = rw open-tree (more both m open-both y h)
           where
-            over : (b k : ℕ) → k ≡ held_open b → most ≡ max 1 k → most_form_brackets ≤ most → most_form_brackets + 1 ≡ held_open (suc (max 1 b))
-            over b k p q l = omega arith
-
-        pub open_more : most < most_form_brackets → most + 1 ≡ held_open (open_brackets (tree ws i))
-        open_more h = rw open-tree (more both m open-both y h)
-          where
-            more : (b k : ℕ) → k ≡ held_open b → most ≡ max 1 k → most < most_form_brackets → most + 1 ≡ held_open (suc (max 1 b))
+            more : (b k : ℕ) → k ≡ held_open b → most ≡ max k 1 → n ≡ min most most_form_brackets → n + 1 ≡ held_open (suc (max 1 b))
             more b k p q l = omega arith
 
 -- one row more
@@ -205,7 +196,7 @@ module _ (ar : List ℕ) (n : Tables) (ws : List ℕ) (l : is_listing ar ws ≡ 
   root-bytes : get_or bytes (length ws / 3 - 1) 0 ≡ held_bytes (form_length ar n (diagram_of ws))
   root-bytes = c.each (length ws / 3 - 1) (root-row ar ar ws 0 0 l) ∙ ap (λ (d : Diagram). held_bytes (form_length ar n d)) (root-tree ar ar ws 0 0 l)
 
-  pub too-many-bytes : most_form_bytes < get_or bytes (length ws / 3 - 1) 0 → TooLong ≡ measured ar n (diagram_of ws)
+  pub too-many-bytes : most_form_bytes < get_or bytes (length ws / 3 - 1) 0 → None ≡ measured ar n (diagram_of ws)
   unfolding measured is_too_long
   too-many-bytes h = rw (lt-ltb most_line_bytes (9 + form_length ar n (diagram_of ws)) (omega (arith, root-bytes)))
 
@@ -217,11 +208,11 @@ module _ (ar : List ℕ) (n : Tables) (ws : List ℕ) (l : is_listing ar ws ≡ 
       bytes_fit : ltb most_line_bytes (9 + form_length ar n (diagram_of ws)) ≡ false
       bytes_fit = le-ltb most_line_bytes (9 + form_length ar n (diagram_of ws)) (omega (arith, root-bytes))
 
-      pub too-many-brackets : most_form_brackets < get_or brackets (length ws / 3 - 1) 0 → TooLong ≡ measured ar n (diagram_of ws)
+      pub too-many-brackets : most_form_brackets < get_or brackets (length ws / 3 - 1) 0 → None ≡ measured ar n (diagram_of ws)
       unfolding measured is_too_long
       too-many-brackets k = rw (bytes_fit, lt-ltb most_open_brackets (1 + open_brackets (diagram_of ws)) (omega (arith, root-open)))
 
-      pub not-too-many : get_or brackets (length ws / 3 - 1) 0 ≤ most_form_brackets → Bytes (get_or bytes (length ws / 3 - 1) 0) ≡ measured ar n (diagram_of ws)
+      pub not-too-many : get_or brackets (length ws / 3 - 1) 0 ≤ most_form_brackets → Some (get_or bytes (length ws / 3 - 1) 0) ≡ measured ar n (diagram_of ws)
       unfolding measured is_too_long
       not-too-many k =
           let e : get_or bytes (length ws / 3 - 1) 0 ≡ form_length ar n (diagram_of ws) = omega (arith, root-bytes) in

@@ -15,7 +15,6 @@ use Rattle.diagram.specs.Shown.{Shown}
 use Rattle.diagram.specs.ListingValid.{listing-is-valid}
 use Rattle.diagram.specs.RowDiagrams.{leaf-row, branch_row}
 use Rattle.diagram.specs.DiagramOfListing.{valid-rows, shown-rows, diagram-is}
-use Rattle.answers.specs.declared.Put.TheVariants.{At, Full}
 use Rattle.answers.specs.Digits.{digits}
 use Rattle.answers.specs.Inner.{Placed}
 use Rattle.answering.specs.Wrote.{Wrote}
@@ -26,6 +25,7 @@ use Rattle.diagram_form.proofs.FormLaws.{form-length}
 use Rattle.spelling.specs.Spelling.{tables_at, Named, form_line}
 use Rattle.spelling.specs.Parts.{Spelt, head_text, places_text, test_text, row_text}
 use Rattle.spelling.proofs.TestLaws.{atom-text}
+use Rattle.std.specs.Prelude.{None, Some}
 
 -- the form of a branch and a byte behind it, in the parts that are written
 branch-shape : (h p d e : List ℕ) (b : ℕ)
@@ -182,12 +182,12 @@ module _ (ar names ws : List ℕ) (constants predicates : ℕ) (l : is_listing a
   -- put where there is room
 
   module _ (s : List ℕ) (place : ℕ) {n : ℕ} (e : n ≡ form_length ar (tables_at names constants predicates) (diagram_of ws)) where
-    pub form-past : length s < place → Placed s place (form_line ar (tables_at names constants predicates) (diagram_of ws)) Full s
+    pub form-past : length s < place → Placed s place (form_line ar (tables_at names constants predicates) (diagram_of ws)) None s
     form-past h = placed_past s (form_line ar (tables_at names constants predicates) (diagram_of ws)) h
 
-    pub form-full : place ≤ length s → length s - place ≤ n → Placed s place (form_line ar (tables_at names constants predicates) (diagram_of ws)) Full s
+    pub form-full : place ≤ length s → length s - place ≤ n → Placed s place (form_line ar (tables_at names constants predicates) (diagram_of ws)) None s
     form-full h k = placed-short s (form_line ar (tables_at names constants predicates) (diagram_of ws)) h (omega (arith, line-length))
 
     pub form-at : {s' : List ℕ} {r : ℕ} → place ≤ length s → n < length s - place → Wrote s place (form_line ar (tables_at names constants predicates) (diagram_of ws)) r s'
-        → Placed s place (form_line ar (tables_at names constants predicates) (diagram_of ws)) (At r) s'
+        → Placed s place (form_line ar (tables_at names constants predicates) (diagram_of ws)) (Some r) s'
     form-at h k x = placed_at h (omega (arith, line-length)) x

@@ -5,8 +5,7 @@ use Rattle.diagram.specs.Diagram.{Diagram}
 use Rattle.names.specs.Layout.{constants_at, declared_at, name_words}
 use Rattle.names.specs.Keys.{keys_at}
 use Rattle.diagram_form.specs.Form.{Tables, tables_of, form_bytes, form_length, is_too_long}
-use Rattle.spelling.specs.declared.Measured.{Measured}
-use Rattle.spelling.specs.declared.Measured.TheVariants.{Bytes, TooLong}
+use Rattle.std.specs.Prelude.{None, Option, Some}
 
 -- the names of so many constants and so many declared predicates
 abbrev pub tables_at : List ℕ → ℕ → ℕ → Tables
@@ -19,8 +18,8 @@ pub record Named (names : List ℕ) (constants predicates : ℕ) : Type 0 where
   pub predicates-few : predicates < predicate_count
 
 -- the bytes of the form, or 19
-unfoldable pub measured : List ℕ → Tables → Diagram → Measured
-measured ar n d = cond (is_too_long ar n d) TooLong (Bytes (form_length ar n d))
+unfoldable pub measured : List ℕ → Tables → Diagram → Option ℕ
+measured ar n d = cond (is_too_long ar n d) None (Some (form_length ar n d))
 
 -- 'prints the value diagram .. on one line': the form and a line feed
 abbrev pub form_line : List ℕ → Tables → Diagram → List ℕ

@@ -1,7 +1,7 @@
 // A listing as one nested form (document 02, L2): its bytes measured, and written into a lent buffer.
 #![tactic(auto)]
 
-ghost use Rattle.std.specs.Prelude.{◌≡◌, true, ◌++◌, ◌+◌, ◌*◌, ◌<◌, ◌≤◌, max, length};
+ghost use Rattle.std.specs.Prelude.{◌≡◌, true, ◌++◌, ◌+◌, ◌*◌, ◌<◌, ◌≤◌, length};
 ghost use Rattle.label.specs.Limits.{most_places};
 ghost use Rattle.label.specs.Labels.{are_arities, is_label};
 ghost use Rattle.diagram.specs.Words.{is_listing, row_count};
@@ -17,15 +17,7 @@ ghost use Rattle.spelling.specs.Spelling.{tables_at, Named, measured, form_line}
 ghost use Rattle.spelling.specs.Parts.{name_at, term_text, places_text, head_text, test_text, row_text, Spelt, held_bytes, held_open, ByteCounts, OpenCounts};
 
 use answering::{put_bytes, put_key, put_number};
-use answers::Put;
 use label::{Label, Term};
-
-// The bytes of a form, or that the reward line made of it would be too long: refusal 19.
-#[derive(Clone, Copy)]
-pub enum Measured {
-    Bytes(usize),
-    TooLong,
-}
 
 // What a form may have at most: a reward line's bytes less nine, and its open brackets less one.
 const FORM_BYTES: u64 = 4086;
@@ -44,8 +36,7 @@ fn put_name(out: &mut [u8], at: usize, names: &[u64], base: usize, n: usize, i: 
     if i >= n {
         return at;
     }
-    let key = names::key_at(names, base, i);
-    put_key(out, at, key)
+    put_key(out, at, names::key_at(names, base, i))
 }
 
 // Writes a variable of either kind: what stands before its number, and the number in its kind.
@@ -87,11 +78,9 @@ fn put_places(
     ensures { Wrote out.old at (places_text names.now constants label.packed n) result out.new }
 {
     let mut end = at;
-    let mut k = 0;
-    while k < n {
+    for k in 0..n {
         let i = put_bytes(out, end, b" ");
         end = put_term(out, i, names, constants, label.place(k));
-        k += 1;
     }
     end
 }
@@ -217,20 +206,19 @@ pub fn put_form(
     predicates: usize,
     words: &[u64],
     n: usize,
-) -> Put
+) -> Option<usize>
     requires words_value { is_listing arities.now words.now ≡ true }
     requires named { Named names.now constants predicates }
     requires n_value { n ≡ form_length arities.now (tables_at names.now constants predicates) (diagram_of words.now) }
     ensures { Placed out.old at (form_line arities.now (tables_at names.now constants predicates) (diagram_of words.now)) result out.new }
 {
     if out.len() < at {
-        return Put::Full;
+        return None;
     }
     if out.len() - at <= n {
-        return Put::Full;
+        return None;
     }
-    let end = put(out, at, arities, names, constants, predicates, words);
-    Put::At(end)
+    Some(put(out, at, arities, names, constants, predicates, words))
 }
 
 // The bytes of row i's form from those of its children, held at one above the limit.
@@ -258,20 +246,7 @@ fn row_bytes(
     let test = Label { packed: label };
     let n = put_test(&mut line, 0, arities, names, constants, predicates, test) as u64;
     let sum = n + 2 + bytes[high as usize] + bytes[low as usize];
-    if sum > FORM_BYTES {
-        return FORM_BYTES + 1;
-    }
-    sum
-}
-
-// The higher of two numbers.
-fn higher(x: u64, y: u64) -> u64
-    ensures { result ≡ max x y }
-{
-    if x < y {
-        return y;
-    }
-    x
+    sum.min(FORM_BYTES + 1)
 }
 
 // The brackets that row i's form has open together, from those of its children, held at one above the limit.
@@ -286,11 +261,8 @@ fn row_open(words: &[u64], brackets: &[u64], i: usize) -> u64
     }
     let high = words[i * 3 + 1] as usize;
     let low = words[i * 3 + 2] as usize;
-    let most = higher(1, higher(brackets[high], brackets[low]));
-    if most >= FORM_BRACKETS {
-        return FORM_BRACKETS + 1;
-    }
-    most + 1
+    let most = brackets[high].max(brackets[low]).max(1);
+    most.min(FORM_BRACKETS) + 1
 }
 
 // Counts bytes and brackets of every row's form, in the order of the listing: children stand before their parents.
@@ -310,24 +282,20 @@ fn count_rows(
     ensures open_counts { OpenCounts words.now brackets.new (row_count words.now) }
 {
     let n = words.len() / 3;
-    let mut i = 0;
-    while i < n {
-        let b = row_bytes(arities, names, constants, predicates, words, bytes, i);
-        let o = row_open(words, brackets, i);
-        bytes[i] = b;
-        brackets[i] = o;
-        i += 1;
+    for i in 0..n {
+        bytes[i] = row_bytes(arities, names, constants, predicates, words, bytes, i);
+        brackets[i] = row_open(words, brackets, i);
     }
 }
 
-// The bytes of a listing's form, or that it is too long. Row by row, so that a form of exponential length is judged in linear time.
+// The bytes of a listing's form, or that it is too long (refusal 19). Row by row, so that a form of exponential length is judged in linear time.
 pub fn measure(
     arities: &[u64],
     names: &[u64],
     constants: usize,
     predicates: usize,
     words: &[u64],
-) -> Measured
+) -> Option<usize>
     requires words_value { is_listing arities.now words.now ≡ true }
     requires named { Named names.now constants predicates }
     ensures { result ≡ measured arities.now (tables_at names.now constants predicates) (diagram_of words.now) }
@@ -345,10 +313,10 @@ pub fn measure(
     );
     let root = words.len() / 3 - 1;
     if bytes[root] > FORM_BYTES {
-        return Measured::TooLong;
+        return None;
     }
     if brackets[root] > FORM_BRACKETS {
-        return Measured::TooLong;
+        return None;
     }
-    Measured::Bytes(bytes[root] as usize)
+    Some(bytes[root] as usize)
 }

@@ -31,7 +31,6 @@
 --   state_of == the state that lent words are
 --   all_below, names_below, constants_below, is_state == there is an object, and no object that the lent words name is n or beyond
 --   most_valuations, parameters, valuations == 1,000,000; the parameters of a diagram; n to the number of its variables
---   Valued == the value, or the refusal
 --
 -- Theorems
 --   highest-is: the highest leaf computed is the highest leaf

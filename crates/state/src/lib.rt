@@ -2,14 +2,6 @@
 #![tactic(auto)]
 
 use label::Label;
-use refusal::Refusal;
-
-// What valuing answers: the number, or why there is none.
-#[derive(Clone, Copy)]
-pub enum Valued {
-    Value(u64),
-    Refused(Refusal),
-}
 
 // Valuations of one value call at most.
 pub const VALUATIONS: u64 = 1000000;

@@ -4,7 +4,6 @@
 ghost use Rattle.state_lines.specs.Lines.{ForObjects, ObjectsSays, ForIs, IsSays, ForTrue, TrueSays};
 
 use answers::Answer;
-use facts::Told;
 use memory::{Numbers, Said};
 use text::Kind;
 
@@ -14,14 +13,13 @@ pub fn objects(line: &[u8], number: u64, n: Numbers, arities: &[u64], state: &mu
     ensures { ObjectsSays line.now number n arities.now state.old result state.new }
 {
     let next = events::next_event(line, events::first_word(Kind::Objects));
-    let event = next.event;
-    let count = events::number_in(event);
+    let count = events::number_in(next.event);
     match facts::objects(arities, state, n.live, count) {
-        Told::Done(live) => Said {
+        Ok(live) => Said {
             numbers: memory::with_state(n, live),
             answer: Answer::Nothing,
         },
-        Told::Refused(why) => Said {
+        Err(why) => Said {
             numbers: n,
             answer: Answer::Refused(why, number),
         },
@@ -34,17 +32,15 @@ pub fn is(line: &[u8], number: u64, n: Numbers, names: &[u64], state: &mut [u64]
     ensures { IsSays line.now number n names.now state.old result state.new }
 {
     let first = events::next_event(line, events::first_word(Kind::Is));
-    let name = first.event;
-    let key = events::key_in(name);
+    let key = events::key_in(first.event);
     let second = events::next_event(line, first.place);
-    let word = second.event;
-    let object = events::number_in(word);
+    let object = events::number_in(second.event);
     match facts::place(names, n.counts, state, n.live, key, object) {
-        Told::Done(live) => Said {
+        Ok(live) => Said {
             numbers: memory::with_state(n, live),
             answer: Answer::Nothing,
         },
-        Told::Refused(why) => Said {
+        Err(why) => Said {
             numbers: n,
             answer: Answer::Refused(why, number),
         },
@@ -64,19 +60,17 @@ pub fn tell(
     ensures { TrueSays line.now number n names.now arities.now state.old result state.new }
 {
     let next = events::next_event(line, events::first_word(Kind::True));
-    let event = next.event;
-    let key = events::key_in(event);
-    let before = n.live;
+    let key = events::key_in(next.event);
     let mut row = [0u64; facts::FACT_WORDS];
-    let objects = facts::read_tuple(line, next.place, before.objects, &mut row);
+    let objects = facts::read_tuple(line, next.place, n.live.objects, &mut row);
     match facts::tell(
-        arities, names, n.counts, state, before, key, objects, &mut row,
+        arities, names, n.counts, state, n.live, key, objects, &mut row,
     ) {
-        Told::Done(live) => Said {
+        Ok(live) => Said {
             numbers: memory::with_state(n, live),
             answer: Answer::Nothing,
         },
-        Told::Refused(why) => Said {
+        Err(why) => Said {
             numbers: n,
             answer: Answer::Refused(why, number),
         },

@@ -9,10 +9,10 @@ use Rattle.names.specs.Many.{many}
 use Rattle.diagram.specs.Diagram.{Diagram, leaf}
 use Rattle.diagram.specs.Words.{is_listing}
 use Rattle.diagram.specs.Listing.{diagram_of}
-use Rattle.steps.specs.declared.Step.{Step}
-use Rattle.steps.specs.declared.Step.TheVariants.{Rows, Refused}
-use Rattle.steps.specs.Steps.{Result, Given, Begun, BufferListing}
+use Rattle.steps.specs.Steps.{ResultIn, Given, Begun, BufferListing}
 use Rattle.steps.specs.GivenLaws.{leaf-listing, leaf-diagram, given-refused, result-given, done-then, step-refused}
+use Rattle.std.specs.Prelude.{Err, Ok}
+use Rattle.std.specs.Prelude.{Result}
 
 -- ===== Lists by number =====
 
@@ -34,7 +34,7 @@ refused-stays {A} {D} s step f more v (suc n) e h k = go (refused-stays s step f
 -- ===== A fold over n parts, as the loops run it =====
 
 pub record Folded {A : Type 0} (ar : List ℕ) (s : List A → Outcome Diagram) (f : ℕ → A) (out : List ℕ) (n v : ℕ) : Type 0 where
-  pub result : Result ar (s (many f v)) n out
+  pub result : ResultIn ar (s (many f v)) n out
 
 module _ {A : Type 0} (s : List A → Outcome Diagram) (step : Diagram → A → Outcome Diagram) (f : ℕ → A)
     (more : (l : List A) (a : A) → s (l ++ (a ∷ [])) ≡ and_then (s l) (λ d. step d a)) {ar : List ℕ} where
@@ -42,7 +42,7 @@ module _ {A : Type 0} (s : List A → Outcome Diagram) (step : Diagram → A →
   pub folded_start : are_arities ar ≡ true → s [] ≡ ok (leaf 0) → {n : ℕ} {out : List ℕ} → Begun n out → Folded ar s f out n 0
   unfolding many
   folded_start good e {n} {out} b = record {
-    result = subst (λ (x : ℕ). Result ar (s []) x out) (sym b.one) (record {
+    result = subst (λ (x : ℕ). ResultIn ar (s []) x out) (sym b.one) (record {
       is = e ∙ ap ok (sym (ap diagram_of b.words ∙ leaf-diagram ar 0 good (omega arith)));
       listing = ap (is_listing ar) b.words ∙ leaf-listing ar 0 good (omega arith);
       room = b.room;
@@ -57,17 +57,17 @@ module _ {A : Type 0} (s : List A → Outcome Diagram) (step : Diagram → A →
     unfolding many
     step_is = done-then (λ d. step d (f v)) x.result (more (many f v) (f v))
 
-    module _ {r : Step} {out' : List ℕ} (g : Given ar (step (diagram_of (take (n * 3) out)) (f v)) r out') where
-      pub folded-stops : {e : Refusal} → r ≡ Refused e → (count : ℕ) → v < count → {out'' : List ℕ} → Given ar (s (many f count)) r out''
+    module _ {r : Result ℕ Refusal} {out' : List ℕ} (g : Given ar (step (diagram_of (take (n * 3) out)) (f v)) r out') where
+      pub folded-stops : {e : Refusal} → r ≡ Err e → (count : ℕ) → v < count → {out'' : List ℕ} → Given ar (s (many f count)) r out''
       folded-stops {e} h count l {out''} =
           let k : s (many f (suc v)) ≡ refused e = step_is ∙ step-refused (step (diagram_of (take (n * 3) out)) (f v)) e (sym g.answer ∙ h) in
-          subst (λ (z : Step). Given ar (s (many f count)) z out'') (sym h) (given-refused (refused-stays s step f more (suc v) count e k l))
+          subst (λ (z : Result ℕ Refusal). Given ar (s (many f count)) z out'') (sym h) (given-refused (refused-stays s step f more (suc v) count e k l))
 
-      pub folded_on : {m : ℕ} → r ≡ Rows m → Folded ar s f out' m (v + 1)
+      pub folded_on : {m : ℕ} → r ≡ Ok m → Folded ar s f out' m (v + 1)
       folded_on {m} h = record {
-        result = subst (λ (k : ℕ). Result ar (s (many f k)) m out') (sym (add-one v))
-            (subst (λ (o : Outcome Diagram). Result ar o m out') (sym step_is) (g.result m h));
+        result = subst (λ (k : ℕ). ResultIn ar (s (many f k)) m out') (sym (add-one v))
+            (subst (λ (o : Outcome Diagram). ResultIn ar o m out') (sym step_is) (g.result m h));
       }
 
-    pub folded-end : {count : ℕ} → count ≡ v → Given ar (s (many f count)) (Rows n) out
-    folded-end {count} e = subst (λ (k : ℕ). Given ar (s (many f k)) (Rows n) out) (sym e) (result-given x.result)
+    pub folded-end : {count : ℕ} → count ≡ v → Given ar (s (many f count)) (Ok n) out
+    folded-end {count} e = subst (λ (k : ℕ). Given ar (s (many f k)) (Ok n) out) (sym e) (result-given x.result)

@@ -27,9 +27,9 @@ use Rattle.combine.specs.Calls.{Callable, CombineAnswered}
 use Rattle.mdp.specs.Backup.{combined}
 use Rattle.mdp.proofs.StepLaws.{combined-done, combined-refused}
 use Rattle.mdp.proofs.CallLaws.{leaf-listed, combined-listed}
-use Rattle.steps.specs.declared.Step.{Step}
-use Rattle.steps.specs.declared.Step.TheVariants.{Rows, Refused}
-use Rattle.steps.specs.Steps.{step_as, told_as, Result, Given, Wrote, Begun, Operands, Scalable, Folding}
+use Rattle.steps.specs.Steps.{step_as, told_as, ResultIn, Given, Wrote, Begun, Operands, Scalable, Folding}
+use Rattle.std.specs.Prelude.{Err, Ok}
+use Rattle.std.specs.Prelude.{Result}
 
 -- ===== Steps one after another =====
 
@@ -54,7 +54,7 @@ module _ (op : Operation) (names : Names) (ar x y out : List ℕ) where
       let e = combined-done op names ar (diagram_of x) (diagram_of y) n pairs (sym a.answer) in
       let d = done-accepted op (done_as op names ar (diagram_of x) (diagram_of y)) ar (diagram_of x) (diagram_of y) n pairs (sym a.answer) in
       record {
-        answer = ap Rows d.rows_are ∙ ap step_as (sym e);
+        answer = ap Ok d.rows_are ∙ ap step_as (sym e);
         words = a.words ∙ ap (λ (o : Outcome Diagram). written_as o out) (sym e);
         good = g;
       }
@@ -68,9 +68,9 @@ module _ (op : Operation) (names : Names) (ar x y out : List ℕ) where
 
 pub named-wrote : {op : Operation} (names : Names) {ar x y out work : List ℕ} → Operands ar x y out work
     → {r : Combined} {out' : List ℕ} → CombineAnswered op (done_as op names ar (diagram_of x) (diagram_of y)) ar x y out r out'
-    → {q : Step} → q ≡ told_as r → Wrote ar (combined op names ar (diagram_of x) (diagram_of y)) q out out'
+    → {q : Result ℕ Refusal} → q ≡ told_as r → Wrote ar (combined op names ar (diagram_of x) (diagram_of y)) q out out'
 named-wrote {op} names {ar} {x} {y} {out} o {r} {out'} a {q} e =
-    subst (λ (z : Step). Wrote ar (combined op names ar (diagram_of x) (diagram_of y)) z out out') (sym e)
+    subst (λ (z : Result ℕ Refusal). Wrote ar (combined op names ar (diagram_of x) (diagram_of y)) z out out') (sym e)
     (combined-wrote op names ar x y out r out' a
     (combined-listed op names ar (diagram_of x) (diagram_of y) (is-listing-good ar x o.first) (is-listing-good ar y o.second)))
 
@@ -94,22 +94,22 @@ module _ {ar x : List ℕ} {v : ℕ} {out work : List ℕ} (s : Scalable ar x v 
   pub leaf-operands : Operands ar x (leaf_mark ∷ v ∷ 0 ∷ []) out work
   leaf-operands = record { first = s.first; second = leaf-listing ar v arities s.few; out-room = s.out-room; work-room = s.work-room }
 
-  pub leaf-wrote : {r : Step} {out' : List ℕ} → Wrote ar (combined Product Shared ar (diagram_of x) (diagram_of (leaf_mark ∷ v ∷ 0 ∷ []))) r out out'
+  pub leaf-wrote : {r : Result ℕ Refusal} {out' : List ℕ} → Wrote ar (combined Product Shared ar (diagram_of x) (diagram_of (leaf_mark ∷ v ∷ 0 ∷ []))) r out out'
       → Wrote ar (combined Product Shared ar (diagram_of x) (leaf v)) r out out'
   leaf-wrote {r} {out'} w = subst (λ (d : Diagram). Wrote ar (combined Product Shared ar (diagram_of x) d) r out out') (leaf-diagram ar v arities s.few) w
 
 -- ===== Answers and results =====
 
-step-rows : (o : Outcome Diagram) (n : ℕ) → step_as o ≡ Rows n → {A : Type 0} → ((d : Diagram) → o ≡ ok d → length (rows d) ≡ n → A) → A
+step-rows : (o : Outcome Diagram) (n : ℕ) → step_as o ≡ Ok n → {A : Type 0} → ((d : Diagram) → o ≡ ok d → length (rows d) ≡ n → A) → A
 step-rows (ok d) n e f = f d refl (cc)
 step-rows (refused r) n e f = let z : ◌≡◌ {A = ℕ} 0 1 = cc in absurd (omega arith)
 
-pub step-refused : (o : Outcome Diagram) (e : Refusal) → step_as o ≡ Refused e → o ≡ refused e
+pub step-refused : (o : Outcome Diagram) (e : Refusal) → step_as o ≡ Err e → o ≡ refused e
 step-refused (ok d) e h = let z : ◌≡◌ {A = ℕ} 0 1 = cc in absurd (omega arith)
 step-refused (refused r) e h = ap refused (cc)
 
 -- the words of a listing at a buffer's start
-pub listing-result : (ar : List ℕ) (d : Diagram) (rest : List ℕ) (n : ℕ) → Good ar d → length (rows d) ≡ n → Result ar (ok d) n (listing d ++ rest)
+pub listing-result : (ar : List ℕ) (d : Diagram) (rest : List ℕ) (n : ℕ) → Good ar d → length (rows d) ≡ n → ResultIn ar (ok d) n (listing d ++ rest)
 listing-result ar d rest n g e =
     let k : length (listing d) ≡ n * 3 = length-listing d ∙ ap (λ (m : ℕ). m * 3) e in
     let t : take (n * 3) (listing d ++ rest) ≡ listing d = take_at (listing d) rest (n * 3) k in
@@ -119,7 +119,7 @@ listing-result ar d rest n g e =
       room = omega (arith, length-append (listing d) rest);
     }
 
-pub result_count : {ar : List ℕ} {o : Outcome Diagram} {n : ℕ} {out : List ℕ} → Result ar o n out → length (rows (diagram_of (take (n * 3) out))) ≡ n
+pub result_count : {ar : List ℕ} {o : Outcome Diagram} {n : ℕ} {out : List ℕ} → ResultIn ar o n out → length (rows (diagram_of (take (n * 3) out))) ≡ n
 result_count {ar} {o} {n} {out} r =
     let ws = take (n * 3) out in
     let p = length-listing (diagram_of ws) in
@@ -127,71 +127,71 @@ result_count {ar} {o} {n} {out} r =
     let l = length-take-le (n * 3) out r.room in
     omega arith
 
-pub given-ok : {ar : List ℕ} {o : Outcome Diagram} {d : Diagram} {n : ℕ} {out : List ℕ} → o ≡ ok d → Result ar (ok d) n out → length (rows d) ≡ n → Given ar o (Rows n) out
+pub given-ok : {ar : List ℕ} {o : Outcome Diagram} {d : Diagram} {n : ℕ} {out : List ℕ} → o ≡ ok d → ResultIn ar (ok d) n out → length (rows d) ≡ n → Given ar o (Ok n) out
 given-ok {ar} {o} {d} {n} {out} e r l = record {
-  answer = ap Rows (sym l) ∙ ap step_as (sym e);
-  result = λ m h. let k : n ≡ m = cc in subst (λ (x : Outcome Diagram). Result ar x m out) (sym e) (subst (λ (x : ℕ). Result ar (ok d) x out) k r);
+  answer = ap Ok (sym l) ∙ ap step_as (sym e);
+  result = λ m h. let k : n ≡ m = cc in subst (λ (x : Outcome Diagram). ResultIn ar x m out) (sym e) (subst (λ (x : ℕ). ResultIn ar (ok d) x out) k r);
 }
 
-pub given-refused : {ar : List ℕ} {o : Outcome Diagram} {e : Refusal} {out : List ℕ} → o ≡ refused e → Given ar o (Refused e) out
+pub given-refused : {ar : List ℕ} {o : Outcome Diagram} {e : Refusal} {out : List ℕ} → o ≡ refused e → Given ar o (Err e) out
 given-refused {ar} {o} {e} {out} h = record {
   answer = ap step_as (sym h);
   result = λ n i. let x : ◌≡◌ {A = ℕ} 0 1 = cc in absurd (omega arith);
 }
 
-pub wrote-given : {ar : List ℕ} {o : Outcome Diagram} {r : Step} {out out' : List ℕ} → Wrote ar o r out out' → Given ar o r out'
+pub wrote-given : {ar : List ℕ} {o : Outcome Diagram} {r : Result ℕ Refusal} {out out' : List ℕ} → Wrote ar o r out out' → Given ar o r out'
 wrote-given {ar} {o} {r} {out} {out'} w = record {
   answer = w.answer;
   result = λ n e. step-rows o n (sym w.answer ∙ e) (λ d q l.
       let g : Good ar d = w.good.given d q in
       let u : out' ≡ listing d ++ drop (length (listing d)) out = w.words ∙ ap (λ (z : Outcome Diagram). written_as z out) q in
-      subst (λ (z : Outcome Diagram). Result ar z n out') (sym q)
-      (subst (Result ar (ok d) n) (sym u) (listing-result ar d (drop (length (listing d)) out) n g l)));
+      subst (λ (z : Outcome Diagram). ResultIn ar z n out') (sym q)
+      (subst (ResultIn ar (ok d) n) (sym u) (listing-result ar d (drop (length (listing d)) out) n g l)));
 }
 
 -- a refusal is handed up
-pub refused-then : {ar : List ℕ} {o p : Outcome Diagram} (f : Diagram → Outcome Diagram) {r : Step} {e : Refusal} {out out' : List ℕ} → Given ar o r out → r ≡ Refused e
+pub refused-then : {ar : List ℕ} {o p : Outcome Diagram} (f : Diagram → Outcome Diagram) {r : Result ℕ Refusal} {e : Refusal} {out out' : List ℕ} → Given ar o r out → r ≡ Err e
     → p ≡ and_then o f → Given ar p r out'
 refused-then {ar} {o} {p} f {r} {e} {out} {out'} g h q =
     let k : o ≡ refused e = step-refused o e (sym g.answer ∙ h) in
-    subst (λ (x : Step). Given ar p x out') (sym h) (given-refused (q ∙ ap (λ (x : Outcome Diagram). and_then x f) k))
+    subst (λ (x : Result ℕ Refusal). Given ar p x out') (sym h) (given-refused (q ∙ ap (λ (x : Outcome Diagram). and_then x f) k))
 
 -- a step is taken: what follows goes on from its result
-pub done-then : {ar : List ℕ} {o p : Outcome Diagram} (f : Diagram → Outcome Diagram) {n : ℕ} {out : List ℕ} → Result ar o n out → p ≡ and_then o f
+pub done-then : {ar : List ℕ} {o p : Outcome Diagram} (f : Diagram → Outcome Diagram) {n : ℕ} {out : List ℕ} → ResultIn ar o n out → p ≡ and_then o f
     → p ≡ f (diagram_of (take (n * 3) out))
 done-then f r q = q ∙ ap (λ (x : Outcome Diagram). and_then x f) r.is
 
-pub result-given : {ar : List ℕ} {o : Outcome Diagram} {n : ℕ} {out : List ℕ} → Result ar o n out → Given ar o (Rows n) out
+pub result-given : {ar : List ℕ} {o : Outcome Diagram} {n : ℕ} {out : List ℕ} → ResultIn ar o n out → Given ar o (Ok n) out
 result-given {ar} {o} {n} {out} r = given-ok r.is (record { is = refl; listing = r.listing; room = r.room }) (result_count r)
 
-pub given-same : {ar : List ℕ} {o p : Outcome Diagram} {r : Step} {out : List ℕ} → o ≡ p → Given ar o r out → Given ar p r out
+pub given-same : {ar : List ℕ} {o p : Outcome Diagram} {r : Result ℕ Refusal} {out : List ℕ} → o ≡ p → Given ar o r out → Given ar p r out
 given-same {ar} {o} {p} {r} {out} e g = subst (λ (x : Outcome Diagram). Given ar x r out) e g
 
 -- ===== A result taken over into a buffer =====
 
-pub result-long : {ar : List ℕ} {o : Outcome Diagram} {n : ℕ} {out : List ℕ} → Result ar o n out → n * 3 ≡ length (take (n * 3) out)
+pub result-long : {ar : List ℕ} {o : Outcome Diagram} {n : ℕ} {out : List ℕ} → ResultIn ar o n out → n * 3 ≡ length (take (n * 3) out)
 result-long {ar} {o} {n} {out} r = sym (length-take-le (n * 3) out r.room)
 
-pub result-few : {ar : List ℕ} {o : Outcome Diagram} {n : ℕ} {out : List ℕ} → Result ar o n out → n * 3 ≤ result_words
+pub result-few : {ar : List ℕ} {o : Outcome Diagram} {n : ℕ} {out : List ℕ} → ResultIn ar o n out → n * 3 ≤ result_words
 result-few {ar} {o} {n} {out} r = let v = listing-is-valid ar (take (n * 3) out) r.listing in omega (arith, v.whole, v.few, result-long r)
 
 pub folding-long : {ar buffer : List ℕ} {n : ℕ} {y work : List ℕ} → Folding ar buffer n y work → n * 3 ≡ length (take (n * 3) buffer)
 folding-long {ar} {buffer} {n} f = sym (length-take-le (n * 3) buffer f.inside)
 
-module _ {ar : List ℕ} {o : Outcome Diagram} {r : Step} {out out' : List ℕ} (w : Wrote ar o r out out') where
-  pub fold-stops : {e : Refusal} → r ≡ Refused e → {buffer : List ℕ} → Given ar o r buffer
+module _ {ar : List ℕ} {o : Outcome Diagram} {r : Result ℕ Refusal} {out out' : List ℕ} (w : Wrote ar o r out out') where
+  pub fold-stops : {e : Refusal} → r ≡ Err e → {buffer : List ℕ} → Given ar o r buffer
   fold-stops {e} h {buffer} =
       let k : o ≡ refused e = step-refused o e (sym w.answer ∙ h) in
-      subst (λ (x : Step). Given ar o x buffer) (sym h) (given-refused k)
+      subst (λ (x : Result ℕ Refusal). Given ar o x buffer) (sym h) (given-refused k)
 
-  module _ {m : ℕ} (e : r ≡ Rows m) where
+  module _ {m : ℕ} (e : r ≡ Ok m) where
     pub fold-there : m * 3 ≤ length out'
     fold-there = ((wrote-given w).result m e).room
 
     pub fold-room : {buffer : List ℕ} {n : ℕ} {y work : List ℕ} → Folding ar buffer n y work → m * 3 ≤ length buffer
     fold-room f = omega (arith, result-few ((wrote-given w).result m e), f.buffer-room)
 
-    pub fold-given : (buffer : List ℕ) {buffer' : List ℕ} → buffer' ≡ take (m * 3) out' ++ drop (m * 3) buffer → Given ar o (Rows m) buffer'
+    pub fold-given : (buffer : List ℕ) {buffer' : List ℕ} → buffer' ≡ take (m * 3) out' ++ drop (m * 3) buffer → Given ar o (Ok m) buffer'
     fold-given buffer {buffer'} q =
         let x = (wrote-given w).result m e in
         let t : take (m * 3) buffer' ≡ take (m * 3) out' = ap (take (m * 3)) q ∙ take_at (take (m * 3) out') (drop (m * 3) buffer) (m * 3) (sym (result-long x)) in

@@ -10,32 +10,32 @@ use Rattle.diagram.specs.Listing.{diagram_of, Good}
 use Rattle.apply.specs.declared.Combined.{Combined}
 use Rattle.apply.specs.declared.Combined.TheVariants.{Done, Refused as NotCombined}
 use Rattle.regression.specs.RegressCall.{written_as}
-use Rattle.steps.specs.declared.Step.{Step}
-use Rattle.steps.specs.declared.Step.TheVariants.{Rows, Refused}
+use Rattle.refusal.specs.declared.Refusal.{Refusal}
+use Rattle.std.specs.Prelude.{Err, Ok, Result}
 
 -- the rows of the result, or the refusal
-abbrev pub step_as : Outcome Diagram → Step
-step_as (ok d) = Rows (length (rows d))
-step_as (refused r) = Refused r
+abbrev pub step_as : Outcome Diagram → Result ℕ Refusal
+step_as (ok d) = Ok (length (rows d))
+step_as (refused r) = Err r
 
 -- the answer of a combination as that of a step
-abbrev pub told_as : Combined → Step
-told_as (Done n pairs) = Rows n
-told_as (NotCombined r) = Refused r
+abbrev pub told_as : Combined → Result ℕ Refusal
+told_as (Done n pairs) = Ok n
+told_as (NotCombined r) = Err r
 
 -- the first n rows of the buffer are the listing of what o gives
-pub record Result (ar : List ℕ) (o : Outcome Diagram) (n : ℕ) (out : List ℕ) : Type 0 where
+pub record ResultIn (ar : List ℕ) (o : Outcome Diagram) (n : ℕ) (out : List ℕ) : Type 0 where
   pub is : o ≡ ok (diagram_of (take (n * 3) out))
   pub listing : is_listing ar (take (n * 3) out) ≡ true
   pub room : n * 3 ≤ length out
 
 -- the answer r of what o is, and its result in the buffer; after a refusal the buffer is free
-pub record Given (ar : List ℕ) (o : Outcome Diagram) (r : Step) (out : List ℕ) : Type 0 where
+pub record Given (ar : List ℕ) (o : Outcome Diagram) (r : Result ℕ Refusal) (out : List ℕ) : Type 0 where
   pub answer : r ≡ step_as o
-  pub result : (n : ℕ) → r ≡ Rows n → Result ar o n out
+  pub result : (n : ℕ) → r ≡ Ok n → ResultIn ar o n out
 
 -- the same where the words behind a result stay, and a refusal changes none
-pub record Wrote (ar : List ℕ) (o : Outcome Diagram) (r : Step) (out out' : List ℕ) : Type 0 where
+pub record Wrote (ar : List ℕ) (o : Outcome Diagram) (r : Result ℕ Refusal) (out out' : List ℕ) : Type 0 where
   pub answer : r ≡ step_as o
   pub words : out' ≡ written_as o out
   pub good : Accepted (Good ar) o

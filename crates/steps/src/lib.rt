@@ -14,20 +14,13 @@ use apply::{Combined, Names, Operation};
 use label::Label;
 use refusal::Refusal;
 
-// What a row of calls answers: the result's rows, or the first refusal met.
-#[derive(Clone, Copy)]
-pub enum Step {
-    Rows(usize),
-    Refused(Refusal),
-}
-
 // The answer of a combination, as that of a step.
-fn told(r: Combined) -> Step
+fn told(r: Combined) -> Result<usize, Refusal>
     ensures { result ≡ told_as r }
 {
     match r {
-        Combined::Done(n, _) => Step::Rows(n),
-        Combined::Refused(e) => Step::Refused(e),
+        Combined::Done(n, _) => Ok(n),
+        Combined::Refused(e) => Err(e),
     }
 }
 
@@ -39,7 +32,7 @@ pub fn shared(
     y: &[u64],
     out: &mut [u64],
     work: &mut [u64],
-) -> Step
+) -> Result<usize, Refusal>
     requires { Operands arities.now x.now y.now out.old work.old }
     ensures { Wrote arities.now (combined op Shared arities.now (diagram_of x.now) (diagram_of y.now)) result out.old out.new }
 {
@@ -47,7 +40,13 @@ pub fn shared(
 }
 
 // Adds two listings, names apart.
-pub fn sum_apart(arities: &[u64], x: &[u64], y: &[u64], out: &mut [u64], work: &mut [u64]) -> Step
+pub fn sum_apart(
+    arities: &[u64],
+    x: &[u64],
+    y: &[u64],
+    out: &mut [u64],
+    work: &mut [u64],
+) -> Result<usize, Refusal>
     requires { Operands arities.now x.now y.now out.old work.old }
     ensures { Wrote arities.now (combined Sum Apart arities.now (diagram_of x.now) (diagram_of y.now)) result out.old out.new }
 {
@@ -55,7 +54,13 @@ pub fn sum_apart(arities: &[u64], x: &[u64], y: &[u64], out: &mut [u64], work: &
 }
 
 // A listing times the leaf v, names shared.
-pub fn times_leaf(arities: &[u64], x: &[u64], v: u64, out: &mut [u64], work: &mut [u64]) -> Step
+pub fn times_leaf(
+    arities: &[u64],
+    x: &[u64],
+    v: u64,
+    out: &mut [u64],
+    work: &mut [u64],
+) -> Result<usize, Refusal>
     requires { Scalable arities.now x.now v out.old work.old }
     ensures { Wrote arities.now (combined Product Shared arities.now (diagram_of x.now) (leaf v)) result out.old out.new }
 {
@@ -64,17 +69,20 @@ pub fn times_leaf(arities: &[u64], x: &[u64], v: u64, out: &mut [u64], work: &mu
 }
 
 // Adds y to the listing that the first n rows of the buffer are, names apart.
-pub fn add_apart(arities: &[u64], buffer: &mut [u64], n: usize, y: &[u64], work: &mut [u64]) -> Step
+pub fn add_apart(
+    arities: &[u64],
+    buffer: &mut [u64],
+    n: usize,
+    y: &[u64],
+    work: &mut [u64],
+) -> Result<usize, Refusal>
     requires { Folding arities.now buffer.old n y.now work.old }
     ensures { Given arities.now (combined Sum Apart arities.now (diagram_of (take (n * 3) buffer.old)) (diagram_of y.now)) result buffer.new }
 {
     let mut sum = [0u64; diagram::RESULT_WORDS];
-    let r = sum_apart(arities, &buffer[..n * 3], y, &mut sum, work);
-    let Step::Rows(m) = r else {
-        return r;
-    };
+    let m = sum_apart(arities, &buffer[..n * 3], y, &mut sum, work)?;
     write::copy(&sum, m, buffer);
-    r
+    Ok(m)
 }
 
 // Combines the listing that the first n rows of the buffer are with y, names shared; the result replaces it.
@@ -85,17 +93,14 @@ pub fn fold_shared(
     n: usize,
     y: &[u64],
     work: &mut [u64],
-) -> Step
+) -> Result<usize, Refusal>
     requires { Folding arities.now buffer.old n y.now work.old }
     ensures { Given arities.now (combined op Shared arities.now (diagram_of (take (n * 3) buffer.old)) (diagram_of y.now)) result buffer.new }
 {
     let mut result = [0u64; diagram::RESULT_WORDS];
-    let r = shared(op, arities, &buffer[..n * 3], y, &mut result, work);
-    let Step::Rows(m) = r else {
-        return r;
-    };
+    let m = shared(op, arities, &buffer[..n * 3], y, &mut result, work)?;
     write::copy(&result, m, buffer);
-    r
+    Ok(m)
 }
 
 // Writes leaf 0: one row.

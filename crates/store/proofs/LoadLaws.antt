@@ -1,5 +1,6 @@
 -- Laws of `carry` and `load`.
 use mathlib.Core.Path.{◌≡◌, refl, sym, ap, subst, ◌∙◌}
+use Rattle.std.proofs.lemmas.Option.{some_pair_parts}
 use mathlib.Core.List.{List, [], ◌∷◌, ◌++◌, map}
 use Prim.Native.Nat.{ℕ, zero, suc, pred, ◌+◌, ◌*◌, ◌/◌, ◌<◌, ◌≤◌, zero-le}
 use native.Mathlib.Numerals.{add-one}
@@ -33,11 +34,10 @@ use Rattle.diagram.specs.DiagramOfListing.{valid-rows, shown-rows, diagram-is, r
 use Rattle.diagram.specs.ListingValid.{listing-is-valid}
 use Rattle.apply.specs.Formed.{add}
 use Rattle.apply.proofs.FormedLaws.{add-mem, add-begins}
-use Rattle.store.specs.declared.Formed.{Formed}
-use Rattle.store.specs.declared.Formed.TheVariants.{Row, Full}
 use Rattle.store.specs.Space.{diagrams_of, Holds, stands_for, Formable, a-leaf, a-branch, Formation, add_all}
 use Rattle.store.specs.AddLaws.{add-all-none, add-all-snoc, add-all-more}
 use Rattle.store.specs.Load.{carried, renamed_of, Carriable, Loadable, Loaded}
+use Rattle.std.specs.Prelude.{None, Option, Some}
 use Rattle.store.proofs.SpaceLaws.{
   length-diagrams,
   diagram-at,
@@ -215,7 +215,7 @@ module _ {ar ws ts s₀ heads₀ links₀ numbers₀ : List ℕ} {count : ℕ} (
     pub load-formable : Formable n row
     load-formable = next.formable
 
-    formed-next : {y : Formed} {s' heads' links' : List ℕ} → Formation (stands_for s row) (add (stands_for s row) (diagrams_of s n)) y s' heads' links'
+    formed-next : {y : Option (ℕ × ℕ)} {s' heads' links' : List ℕ} → Formation (stands_for s row) (add (stands_for s row) (diagrams_of s n)) y s' heads' links'
         → Formation D (add D (diagrams_of s n)) y s' heads' links'
     formed-next {y} {s'} {heads'} {links'} f = subst (λ (d : Diagram). Formation d (add d (diagrams_of s n)) y s' heads' links') next.stands f
 
@@ -223,18 +223,18 @@ module _ {ar ws ts s₀ heads₀ links₀ numbers₀ : List ℕ} {count : ℕ} (
     added_next = ap (add D) g.formed ∙ sym (add-all-snoc (diagrams_of s₀ count) (carried_rows ar ws ts k) D)
         ∙ ap (add_all (diagrams_of s₀ count)) (sym (carried-next ar ws ts k))
 
-    module _ {y : Formed} {s' heads' links' : List ℕ} (f : Formation (stands_for s row) (add (stands_for s row) (diagrams_of s n)) y s' heads' links') where
-      pub load_full : y ≡ Full → Loaded ar ws ts s₀ count Full s' heads' links' numbers
+    module _ {y : Option (ℕ × ℕ)} {s' heads' links' : List ℕ} (f : Formation (stands_for s row) (add (stands_for s row) (diagrams_of s n)) y s' heads' links') where
+      pub load_full : y ≡ None → Loaded ar ws ts s₀ count None s' heads' links' numbers
       load_full e = record {
-        formation = full-more (renamed_of ar ts (diagram_of ws)) All (subst (λ (z : Formed). Formation D (add D (diagrams_of s n)) z s' heads' links') e (formed-next f))
+        formation = full-more (renamed_of ar ts (diagram_of ws)) All (subst (λ (z : Option (ℕ × ℕ)). Formation D (add D (diagrams_of s n)) z s' heads' links') e (formed-next f))
             (rw (added_next, all-is) (add-all-more (diagrams_of s₀ count) (carried_rows ar ws ts (k + 1)) (carried_rows ar ws ts (row_count ws))
             (carried-begins ar ws ts (k + 1) (row_count ws) (omega arith))));
         numbers = λ i m j q. absurd (let z : ◌≡◌ {A = ℕ} 0 1 = cc in omega arith);
       }
 
-      module _ {i c : ℕ} (e : y ≡ Row i c) where
-        there : Formation D (add D (diagrams_of s n)) (Row i c) s' heads' links'
-        there = subst (λ (z : Formed). Formation D (add D (diagrams_of s n)) z s' heads' links') e (formed-next f)
+      module _ {i c : ℕ} (e : y ≡ Some (i, c)) where
+        there : Formation D (add D (diagrams_of s n)) (Some (i, c)) s' heads' links'
+        there = subst (λ (z : Option (ℕ × ℕ)). Formation D (add D (diagrams_of s n)) z s' heads' links') e (formed-next f)
 
         load-small : i < space_rows
         load-small =
@@ -266,12 +266,12 @@ module _ {ar ws ts s₀ heads₀ links₀ numbers₀ : List ℕ} {count : ℕ} (
             each j p (equal q) = rw (q, at-k) (formation-tree there (add-mem D (diagrams_of s n)))
             each j p (above q) = absurd (omega arith)
 
-  pub load-end : length ws / 3 ≤ k → Loaded ar ws ts s₀ count (Row root n) s heads links numbers
+  pub load-end : length ws / 3 ≤ k → Loaded ar ws ts s₀ count (Some (root, n)) s heads links numbers
   load-end h = record {
     formation = formed-room s heads links All n (rw (← are) (length-diagrams s n)) (rw (← are) g.holds.written) g.holds.table
         (renamed_of ar ts (diagram_of ws)) root (rw (← are) (kept-index-is (diagrams_of s n) root (renamed_of ar ts (diagram_of ws)) g.holds.written.kept
         (omega (arith, length-diagrams s n, at.0)) (diagram-at s n root at.0 ∙ at.1)));
-    numbers = λ i m j q p. let z : n ≡ m = cc in rw (← z) (g.each j (omega (arith, h)));
+    numbers = λ i m j q p. let z = some_pair_parts root i n m q in rw (← z.1) (g.each j (omega (arith, h)));
   }
     where
       some : 1 ≤ row_count ws

@@ -2,7 +2,7 @@
 use mathlib.Core.Bool.{true, false, cond}
 use mathlib.Core.Path.{◌≡◌, refl, sym, ap, ap₂, subst, ◌∙◌}
 use mathlib.Core.List.{List, [], ◌∷◌, ◌++◌, map}
-use Prim.Native.Nat.{ℕ, zero, suc, ◌+◌, ◌-◌, ◌*◌, ◌<◌, ◌≤◌}
+use Prim.Native.Nat.{ℕ, zero, suc, ◌+◌, ◌*◌, ◌<◌, ◌≤◌}
 use native.Mathlib.Omega.{arith}
 use borrow.Author.Tests.{eq-eqb, ne_eqb, le-leb, lt-leb, leb-true, leb-false}
 use lib.ListN.{length, get_or, take, length-append, length-map, get_or-append}
@@ -13,7 +13,6 @@ use Rattle.basics.specs.Members.{mem}
 use Rattle.basics.specs.Prefix.{Prefix, prefix-length, prefix-get_d}
 use Rattle.label.specs.Limits.{leaf_mark}
 use Rattle.table.specs.declared.Row.{Row as TableRow}
-use Rattle.table.specs.declared.Found.TheVariants.{At, Nothing}
 use Rattle.table.specs.declared.Added.{Added}
 use Rattle.table.specs.declared.Added.TheVariants.{Old, New, Full as NoRoom}
 use Rattle.table.specs.Rows.{row_at, rows, same_row, first_from, first_in}
@@ -38,10 +37,11 @@ use Rattle.apply.specs.ApplyLaws.{node-same, node-differ}
 use Rattle.apply.specs.Inner.{ClosedRows}
 use Rattle.apply.specs.Formed.{add}
 use Rattle.apply.proofs.FormedLaws.{add-old, add-new}
-use Rattle.store.specs.declared.Formed.{Formed}
-use Rattle.store.specs.declared.Formed.TheVariants.{Row, Full}
 use Rattle.store.specs.AddLaws.{kept-closed}
 use Rattle.store.specs.Space.{diagrams_of, Holds, stands_for, Formable, a-leaf, a-branch, Children, form_answer, Formation}
+use Rattle.std.specs.Prelude.{None, Some}
+use Rattle.std.specs.Prelude.{Option}
+use Rattle.std.proofs.lemmas.Option.{some_pair_parts}
 
 -- the diagrams of the rows, by number
 map_same : (f g : ℕ → Diagram) (n : ℕ) → ((k : ℕ) → k < n → f k ≡ g k) → map f (up_to n) ≡ map g (up_to n)
@@ -108,16 +108,16 @@ record Place (d : TableRow) (k : ℕ) (xs : List TableRow) (r : TableRow) (i : �
   within : at < length xs
   row : get_or xs at d ≡ r
 
-found_from : (d : TableRow) (k : ℕ) (xs : List TableRow) (r : TableRow) (i : ℕ) → first_from k xs r ≡ At i → Place d k xs r i
+found_from : (d : TableRow) (k : ℕ) (xs : List TableRow) (r : TableRow) (i : ℕ) → first_from k xs r ≡ Some i → Place d k xs r i
 unfolding first_from
 found_from d k [] r i e = absurd (let z : ◌≡◌ {A = ℕ} 0 1 = cc in omega arith)
 found_from d k (x ∷ xs) r i e = go (flag (same_row x r)) (found_from d (suc k) xs r i)
   where
-    go : Flag (same_row x r) → (first_from (suc k) xs r ≡ At i → Place d (suc k) xs r i) → Place d k (x ∷ xs) r i
-    go (is_true q) ih = let f : At k ≡ At i = rw q at e in let g : k ≡ i = cc in record { at = 0; is = omega arith; within = omega arith; row = same_true x r q }
+    go : Flag (same_row x r) → (first_from (suc k) xs r ≡ Some i → Place d (suc k) xs r i) → Place d k (x ∷ xs) r i
+    go (is_true q) ih = let f : Some k ≡ Some i = rw q at e in let g : k ≡ i = cc in record { at = 0; is = omega arith; within = omega arith; row = same_true x r q }
     go (is_false q) ih = let f = ih (rw q at e) in record { at = suc f.at; is = omega (arith, f.is); within = omega (arith, f.within); row = f.row }
 
-pub found-is : (s : List ℕ) (n : ℕ) (r : TableRow) (i : ℕ) → first_in (rows s n) r ≡ At i → (i < n) × (row_at s i ≡ r)
+pub found-is : (s : List ℕ) (n : ℕ) (r : TableRow) (i : ℕ) → first_in (rows s n) r ≡ Some i → (i < n) × (row_at s i ≡ r)
 unfolding first_in
 found-is s n r i e =
     let f = found_from r 0 (rows s n) r i e in
@@ -166,11 +166,11 @@ module _ (s : List ℕ) (rs : List Diagram) (w : Written s rs) (count : ℕ) (e 
       (low-is us (length rs) r x ∙ sym (kept-index-is rs r.low f w.kept (omega arith) j)))
 
 -- the answers of forming
-answer-room : (d : Diagram) (rs : List Diagram) → length rs ≤ space_rows → form_answer d rs ≡ Row (index d rs) (length rs)
+answer-room : (d : Diagram) (rs : List Diagram) → length rs ≤ space_rows → form_answer d rs ≡ Some ((index d rs), (length rs))
 unfolding form_answer
 answer-room d rs h = rw (le-leb (length rs) space_rows h)
 
-answer-full : (d : Diagram) (rs : List Diagram) → space_rows < length rs → form_answer d rs ≡ Full
+answer-full : (d : Diagram) (rs : List Diagram) → space_rows < length rs → form_answer d rs ≡ None
 unfolding form_answer
 answer-full d rs h = rw (lt-leb (length rs) space_rows h)
 
@@ -178,14 +178,14 @@ module _ (s heads links : List ℕ) (rs : List Diagram) (n : ℕ) (e : length rs
   pub written-holds : Holds s heads links n
   written-holds = record { table = t; written = rw (← e, written-diagrams s rs w) w }
 
-  pub formed-room : (d : Diagram) (i : ℕ) → index d rs ≡ i → Formation d rs (Row i n) s heads links
+  pub formed-room : (d : Diagram) (i : ℕ) → index d rs ≡ i → Formation d rs (Some (i, n)) s heads links
   formed-room d i q = record {
-    answer = ap₂ Row (sym q) (sym e) ∙ sym (answer-room d rs (omega (arith, t.within)));
+    answer = ap₂ (λ u v. Some (u, v)) (sym q) (sym e) ∙ sym (answer-room d rs (omega (arith, t.within)));
     diagrams = rw (← e) (written-diagrams s rs w ∙ sym (take_all space_rows rs (omega (arith, t.within))));
     holds = written-holds;
   }
 
-  pub formed-full : (d : Diagram) (more : List Diagram) → n ≡ space_rows → 1 ≤ length more → Formation d (rs ++ more) Full s heads links
+  pub formed-full : (d : Diagram) (more : List Diagram) → n ≡ space_rows → 1 ≤ length more → Formation d (rs ++ more) None s heads links
   formed-full d more q h = record {
     answer = sym (answer-full d (rs ++ more) (omega (arith, length-append rs more)));
     diagrams = ap (diagrams_of s) (sym q ∙ sym e) ∙ written-diagrams s rs w
@@ -205,7 +205,7 @@ module _ {s heads links : List ℕ} {count : ℕ} {r : TableRow} {x : Added} {s'
   is-count : length Rs ≡ count
   is-count = length-diagrams s count
 
-  pub form-old : {i : ℕ} → x ≡ Old i → Formation D (add D Rs) (Row i count) s' heads' links'
+  pub form-old : {i : ℕ} → x ≡ Old i → Formation D (add D Rs) (Some (i, count)) s' heads' links'
   form-old {i} e =
       let c = case-old p i e in
       let g = found-is s count r i c.0 in
@@ -215,10 +215,10 @@ module _ {s heads links : List ℕ} {count : ℕ} {r : TableRow} {x : Added} {s'
       (formed-room s' heads' links' Rs count is-count (written_same s Rs h.written s' (rw is-count a)) c.2 D i
       (kept-index-is Rs i D h.written.kept (omega (arith, is-count)) t))
 
-  fresh : first_in (rows s count) r ≡ Nothing → mem same D Rs ≡ false
+  fresh : first_in (rows s count) r ≡ None → mem same D Rs ≡ false
   fresh e = missing s Rs h.written count is-count r f (none_found s count r e)
 
-  pub form-new : {i : ℕ} → x ≡ New i → Formation D (add D Rs) (Row count (count + 1)) s' heads' links'
+  pub form-new : {i : ℕ} → x ≡ New i → Formation D (add D Rs) (Some (count, (count + 1))) s' heads' links'
   form-new {i} e =
       let c = case-new p i e in
       let m = fresh c.0 in
@@ -231,7 +231,7 @@ module _ {s heads links : List ℕ} {count : ℕ} {r : TableRow} {x : Added} {s'
       (formed-room s' heads' links' (Rs ++ (D ∷ [])) (count + 1) (omega (arith, length-append Rs (D ∷ []), is-count))
       (more s Rs h.written count is-count r f s' (rw is-count a) (rw is-count b) m) c.2 D count (index-new D Rs m ∙ is-count))
 
-  pub form-full : x ≡ NoRoom → Formation D (add D Rs) Full s' heads' links'
+  pub form-full : x ≡ NoRoom → Formation D (add D Rs) None s' heads' links'
   unfolding add_rows
   form-full e =
       let c = case_full p e in
@@ -243,7 +243,7 @@ module _ {s heads links : List ℕ} {count : ℕ} {r : TableRow} {x : Added} {s'
       (formed-full s' heads' links' Rs count is-count (written_same s Rs h.written s' (rw is-count a)) t D (D ∷ []) c.1 (omega arith))
 
 -- `leaf` and `branch`
-module _ (s : List ℕ) (count : ℕ) {value : ℕ} {x : Formed} {s' heads' links' : List ℕ} where
+module _ (s : List ℕ) (count : ℕ) {value : ℕ} {x : Option (ℕ × ℕ)} {s' heads' links' : List ℕ} where
   pub leaf-formed : Formation (stands_for s (record { label = leaf_mark; high = value; low = 0 }))
       (add (stands_for s (record { label = leaf_mark; high = value; low = 0 })) (diagrams_of s count)) x s' heads' links'
       → Formation (leaf value) (add (leaf value) (diagrams_of s count)) x s' heads' links'
@@ -258,7 +258,7 @@ branch-formable c = a-branch c.label-below c.high-there c.low-there
 
 module _ {s heads links : List ℕ} {count label high low : ℕ} (h : Holds s heads links count) (c : Children count label high low) where
   pub branch_same : high ≡ low
-      → Formation (node label (tree s high) (tree s low)) (add (node label (tree s high) (tree s low)) (diagrams_of s count)) (Row high count) s heads links
+      → Formation (node label (tree s high) (tree s low)) (add (node label (tree s high) (tree s low)) (diagrams_of s count)) (Some (high, count)) s heads links
   branch_same e =
       let n = length-diagrams s count in
       let b = diagram-at s count high c.high-there in
@@ -277,7 +277,7 @@ module _ {s heads links : List ℕ} {count label high low : ℕ} (h : Holds s he
           (diagram-at s count high c.high-there ∙ same-eq (tree s high) (tree s low) e ∙ sym (diagram-at s count low c.low-there))))
       go (is_false e) = e
 
-  pub branch-formed : {x : Formed} {s' heads' links' : List ℕ} → (high ≡ low → ⊥)
+  pub branch-formed : {x : Option (ℕ × ℕ)} {s' heads' links' : List ℕ} → (high ≡ low → ⊥)
       → Formation (stands_for s (record { label = label; high = high; low = low }))
       (add (stands_for s (record { label = label; high = high; low = low })) (diagrams_of s count)) x s' heads' links'
       → Formation (node label (tree s high) (tree s low)) (add (node label (tree s high) (tree s low)) (diagrams_of s count)) x s' heads' links'
@@ -292,31 +292,32 @@ holds-none s heads links h k c =
 
 -- what a space's Formation tells its caller: rows that were there stay
 module _ {d : Diagram} {rs : List Diagram} {s heads links : List ℕ} where
-  pub formation-row : {i n : ℕ} → Formation d rs (Row i n) s heads links → (length rs ≤ space_rows) × (i ≡ index d rs) × (n ≡ length rs) × (diagrams_of s n ≡ rs)
+  pub formation-row : {i n : ℕ} → Formation d rs (Some (i, n)) s heads links → (length rs ≤ space_rows) × (i ≡ index d rs) × (n ≡ length rs) × (diagrams_of s n ≡ rs)
   unfolding form_answer
   formation-row {i} {n} f = go (flag (leb (length rs) space_rows)) f.answer
     where
-      go : Flag (leb (length rs) space_rows) → Row i n ≡ cond (leb (length rs) space_rows) (Row (index d rs) (length rs)) Full
+      go : Flag (leb (length rs) space_rows) → ◌≡◌ {A = Option (ℕ × ℕ)} (Some (i, n)) (cond (leb (length rs) space_rows) (Some (index d rs, length rs)) None)
           → (length rs ≤ space_rows) × (i ≡ index d rs) × (n ≡ length rs) × (diagrams_of s n ≡ rs)
       go (is_true e) a =
           let l = leb-true (length rs) space_rows e in
-          let b : Row i n ≡ Row (index d rs) (length rs) = rw e at a in
-          (l, cc, cc, f.diagrams ∙ take_all space_rows rs l)
-      go (is_false e) a = let b : Row i n ≡ Full = rw e at a in absurd (let z : ◌≡◌ {A = ℕ} 0 1 = cc in omega arith)
+          let b : ◌≡◌ {A = Option (ℕ × ℕ)} (Some (i, n)) (Some (index d rs, length rs)) = rw e at a in
+          let p = some_pair_parts i (index d rs) n (length rs) b in
+          (l, p.0, p.1, f.diagrams ∙ take_all space_rows rs l)
+      go (is_false e) a = let b : ◌≡◌ {A = Option (ℕ × ℕ)} (Some (i, n)) None = rw e at a in absurd (let z : ◌≡◌ {A = ℕ} 0 1 = cc in omega arith)
 
-  pub formation-full : Formation d rs Full s heads links → space_rows < length rs
+  pub formation-full : Formation d rs None s heads links → space_rows < length rs
   unfolding form_answer
   formation-full f = go (flag (leb (length rs) space_rows)) f.answer
     where
-      go : Flag (leb (length rs) space_rows) → Full ≡ cond (leb (length rs) space_rows) (Row (index d rs) (length rs)) Full → space_rows < length rs
-      go (is_true e) a = let b : Full ≡ Row (index d rs) (length rs) = rw e at a in absurd (let z : ◌≡◌ {A = ℕ} 0 1 = cc in omega arith)
+      go : Flag (leb (length rs) space_rows) → ◌≡◌ {A = Option (ℕ × ℕ)} None (cond (leb (length rs) space_rows) (Some (index d rs, length rs)) None) → space_rows < length rs
+      go (is_true e) a = let b : ◌≡◌ {A = Option (ℕ × ℕ)} None (Some (index d rs, length rs)) = rw e at a in absurd (let z : ◌≡◌ {A = ℕ} 0 1 = cc in omega arith)
       go (is_false e) a = leb-false (length rs) space_rows e
 
 -- the rows of a space hold with each branch its children
 pub holds-closed : {s heads links : List ℕ} {count : ℕ} → Holds s heads links count → ClosedRows (diagrams_of s count)
 holds-closed {s} {heads} {links} {count} h = kept-closed (diagrams_of s count) h.written.kept
 
-module _ {d : Diagram} {rs : List Diagram} {s heads links : List ℕ} {i n : ℕ} (f : Formation d rs (Row i n) s heads links) where
+module _ {d : Diagram} {rs : List Diagram} {s heads links : List ℕ} {i n : ℕ} (f : Formation d rs (Some (i, n)) s heads links) where
   -- the row that was formed stands for its diagram
   pub formation-tree : mem same d rs ≡ true → (i < n) × (tree s i ≡ d)
   formation-tree m =
@@ -333,8 +334,8 @@ module _ {d : Diagram} {rs : List Diagram} {s heads links : List ℕ} {i n : ℕ
       (k', sym (diagram-at s n k k') ∙ ap (λ (x : List Diagram). row_tree x k) r.3 ∙ prefix-get_d b k (leaf 0) (omega arith) ∙ diagram-at us count k h)
 
 -- where there is no room for some rows, there is none for more
-pub full-more : {d : Diagram} {rs : List Diagram} {s heads links : List ℕ} (e : Diagram) (qs : List Diagram) → Formation d rs Full s heads links → Prefix rs qs
-    → Formation e qs Full s heads links
+pub full-more : {d : Diagram} {rs : List Diagram} {s heads links : List ℕ} (e : Diagram) (qs : List Diagram) → Formation d rs None s heads links → Prefix rs qs
+    → Formation e qs None s heads links
 full-more {d} {rs} {s} {heads} {links} e qs f b =
     let h = formation-full f in
     record {

@@ -11,9 +11,8 @@ use Rattle.diagram.specs.Rows.{rows}
 use Rattle.diagram.specs.Words.{label_at, high_at, low_at, row_count, is_listing}
 use Rattle.diagram.specs.Listing.{diagram_of}
 use Rattle.diagram.specs.Validity.{tree}
-use Rattle.store.specs.declared.Formed.{Formed}
-use Rattle.store.specs.declared.Formed.TheVariants.{Row}
 use Rattle.store.specs.Space.{diagrams_of, Holds, Formation, add_all}
+use Rattle.std.specs.Prelude.{Option, Some}
 
 -- row k of the listing ws as a row of the space: its label renamed, its children by their numbers there
 unfoldable pub carried : List ℕ → List ℕ → List ℕ → List ℕ → ℕ → TableRow
@@ -40,6 +39,6 @@ pub record Loadable (ar ws ts s heads links : List ℕ) (count : ℕ) (numbers :
   pub holds : Holds s heads links count
 
 -- what `load` ensures: the rows of the listing are formed in number order, each renamed; where there is room, `numbers` has the place of each
-pub record Loaded (ar ws ts s : List ℕ) (count : ℕ) (r : Formed) (s' heads' links' numbers' : List ℕ) : Type 0 where
+pub record Loaded (ar ws ts s : List ℕ) (count : ℕ) (r : Option (ℕ × ℕ)) (s' heads' links' numbers' : List ℕ) : Type 0 where
   pub formation : Formation (renamed_of ar ts (diagram_of ws)) (add_all (diagrams_of s count) (map (renamed_of ar ts) (rows (diagram_of ws)))) r s' heads' links'
-  pub numbers : (i n k : ℕ) → r ≡ Row i n → k < row_count ws → (get_or numbers' k 0 < n) × (tree s' (get_or numbers' k 0) ≡ renamed_of ar ts (tree ws k))
+  pub numbers : (i n k : ℕ) → r ≡ Some (i, n) → k < row_count ws → (get_or numbers' k 0 < n) × (tree s' (get_or numbers' k 0) ≡ renamed_of ar ts (tree ws k))

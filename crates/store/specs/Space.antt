@@ -11,8 +11,7 @@ use Rattle.diagram.specs.Listing.{index}
 use Rattle.diagram.specs.Validity.{tree}
 use Rattle.diagram.specs.Inner.{Written}
 use Rattle.apply.specs.Formed.{add}
-use Rattle.store.specs.declared.Formed.{Formed}
-use Rattle.store.specs.declared.Formed.TheVariants.{Row, Full}
+use Rattle.std.specs.Prelude.{None, Option, Some}
 
 -- the diagrams of the first count rows
 unfoldable pub diagrams_of : List ℕ → ℕ → List Diagram
@@ -39,16 +38,16 @@ pub record Children (count label high low : ℕ) : Type 0 where
   pub low-there : low < count
 
 -- what forming answers, where the rows are rs then: the number of the row d and the count of rows, or that they are above 2,048 (refusal 9)
-unfoldable pub form_answer : Diagram → List Diagram → Formed
-form_answer d rs = cond (leb (length rs) space_rows) (Row (index d rs) (length rs)) Full
+unfoldable pub form_answer : Diagram → List Diagram → Option (ℕ × ℕ)
+form_answer d rs = cond (leb (length rs) space_rows) (Some ((index d rs), (length rs))) None
 
 -- the rows in the space after an answer
-abbrev pub rows_then : Formed → ℕ
-rows_then (Row i n) = n
-rows_then Full = space_rows
+abbrev pub rows_then : Option (ℕ × ℕ) → ℕ
+rows_then (Some (i, n)) = n
+rows_then None = space_rows
 
 -- what forming the rows rs, with d among them, ensures: the answer, and a space that holds as many of rs as there is room for
-pub record Formation (d : Diagram) (rs : List Diagram) (r : Formed) (s heads links : List ℕ) : Type 0 where
+pub record Formation (d : Diagram) (rs : List Diagram) (r : Option (ℕ × ℕ)) (s heads links : List ℕ) : Type 0 where
   pub answer : r ≡ form_answer d rs
   pub diagrams : diagrams_of s (rows_then r) ≡ take space_rows rs
   pub holds : Holds s heads links (rows_then r)

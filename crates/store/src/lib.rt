@@ -1,4 +1,5 @@
 // The working space: rows of diagrams in lent words, equal ones once, with an index over them.
+// Forming answers the row's number and the rows in the space then, or None where there is no room.
 #![tactic(auto)]
 
 ghost use Rattle.std.specs.Prelude.{◌≡◌};
@@ -12,13 +13,6 @@ ghost use Rattle.store.specs.Space.{diagrams_of, Holds, stands_for, Formable, Ch
 use label::Label;
 use table::{Added, Row};
 
-// What forming a row answers: the row's number and the rows in the space then, or that there is no room.
-#[derive(Clone, Copy)]
-pub enum Formed {
-    Row(usize, usize),
-    Full,
-}
-
 // Forms a row.
 pub fn form(
     space: &mut [u64],
@@ -26,15 +20,15 @@ pub fn form(
     links: &mut [u16],
     count: usize,
     row: Row,
-) -> Formed
+) -> Option<(usize, usize)>
     requires holds { Holds space.old heads.old links.old count }
     requires formable { Formable count row }
     ensures { Formation (stands_for space.old row) (add (stands_for space.old row) (diagrams_of space.old count)) result space.new heads.new links.new }
 {
     match table::find_or_add(space, heads, links, diagram::SPACE_ROWS, count, row) {
-        Added::Old(i) => Formed::Row(i, count),
-        Added::New(_) => Formed::Row(count, count + 1),
-        Added::Full => Formed::Full,
+        Added::Old(i) => Some((i, count)),
+        Added::New(_) => Some((count, count + 1)),
+        Added::Full => None,
     }
 }
 
@@ -45,7 +39,7 @@ pub fn leaf(
     links: &mut [u16],
     count: usize,
     value: u64,
-) -> Formed
+) -> Option<(usize, usize)>
     requires { Holds space.old heads.old links.old count }
     ensures { Formation (leaf value) (add (leaf value) (diagrams_of space.old count)) result space.new heads.new links.new }
 {
@@ -71,13 +65,13 @@ pub fn branch(
     label: u64,
     high: usize,
     low: usize,
-) -> Formed
+) -> Option<(usize, usize)>
     requires holds { Holds space.old heads.old links.old count }
     requires children { Children count label high low }
     ensures { Formation (node label (tree space.old high) (tree space.old low)) (add (node label (tree space.old high) (tree space.old low)) (diagrams_of space.old count)) result space.new heads.new links.new }
 {
     if high == low {
-        return Formed::Row(high, count);
+        return Some((high, count));
     }
     form(
         space,
@@ -85,7 +79,7 @@ pub fn branch(
         links,
         count,
         Row {
-            label: label,
+            label,
             high: high as u64,
             low: low as u64,
         },
@@ -107,9 +101,8 @@ fn carry(arities: &[u64], words: &[u64], map: &[u64], numbers: &[u16], k: usize)
     }
     let t = basics::wide(numbers[words[k * 3 + 1] as usize]);
     let f = basics::wide(numbers[words[k * 3 + 2] as usize]);
-    let label = Label { packed: l }.renamed(arities, map);
     Row {
-        label: label.packed,
+        label: Label { packed: l }.renamed(arities, map).packed,
         high: t as u64,
         low: f as u64,
     }
@@ -125,23 +118,18 @@ pub fn load(
     links: &mut [u16],
     count: usize,
     numbers: &mut [u16],
-) -> Formed
+) -> Option<(usize, usize)>
     requires { Loadable arities.now words.now map.now space.old heads.old links.old count numbers.old }
     ensures { Loaded arities.now words.now map.now space.old count result space.new heads.new links.new numbers.new }
 {
     let m = words.len() / 3;
     let mut n = count;
     let mut root = 0;
-    let mut k = 0;
-    while k < m {
+    for k in 0..m {
         let row = carry(arities, words, map, numbers, k);
-        let Formed::Row(i, c) = form(space, heads, links, n, row) else {
-            return Formed::Full;
-        };
+        let (i, c) = form(space, heads, links, n, row)?;
         numbers[k] = i as u16;
-        n = c;
-        root = i;
-        k += 1;
+        (root, n) = (i, c);
     }
-    Formed::Row(root, n)
+    Some((root, n))
 }

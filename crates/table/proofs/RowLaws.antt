@@ -7,15 +7,15 @@ use Prim.Native.Nat.{ℕ, zero, suc, ◌+◌, ◌*◌, ◌<◌, ◌≤◌, suc-l
 use native.Mathlib.Nat.{zero-add, add-suc, suc-add, add-zero, eq-or-lt_of_le, le_of_suc-le-suc}
 use native.Mathlib.Numerals.{add-one}
 use native.Mathlib.Omega.{arith}
-use borrow.Author.Tests.{eqb-true, eq-eqb, ne_eqb}
+use borrow.Author.Tests.{eqb-true, eq-eqb}
 use lib.ListN.{length, get_or, set, drop, length-append, length-set, get_or-append}
 use lib.Seq.{get_or_at, get_or-set_same, get_or-set_other, drop-set-lt}
 use lib.Dec.{eqb}
 use Rattle.basics.specs.Tests.{and_left, and_right}
 use Rattle.basics.specs.Members.{clash}
 use Rattle.table.specs.declared.Row.{Row}
-use Rattle.table.specs.declared.Found.TheVariants.{At, Nothing}
 use Rattle.table.specs.Rows.{row_at, put_at, rows, same_row, first_from, first_in}
+use Rattle.std.specs.Prelude.{None, Some}
 
 pub row-ext : (x y : Row) → x.label ≡ y.label → x.high ≡ y.high → x.low ≡ y.low → x ≡ y
 row-ext x y p q r = λ i. record { label = p i; high = q i; low = r i }
@@ -44,14 +44,14 @@ ne_same x y f = go (same_row x y) refl
 
 -- the search, by index
 hit : (d : Row) (k : ℕ) (xs : List Row) (r : Row) (i : ℕ) → i < length xs → get_or xs i d ≡ r → ((j : ℕ) → j < i → get_or xs j d ≡ r → ⊥)
-    → first_from k xs r ≡ At (k + i)
+    → first_from k xs r ≡ Some (k + i)
 unfolding first_from
 hit d k [] r i h e f = absurd (omega arith)
 hit d k (x ∷ xs) r zero h e f = rw (e, same_refl r, add-zero k)
 hit d k (x ∷ xs) r (suc i) h e f =
     rw (ne_same x r (f 0 (omega arith)), hit d (suc k) xs r i (le_of_suc-le-suc h) e (λ j l. f (suc j) (suc-le-suc l)), suc-add k i, add-suc k i)
 
-miss : (d : Row) (k : ℕ) (xs : List Row) (r : Row) → ((j : ℕ) → j < length xs → get_or xs j d ≡ r → ⊥) → first_from k xs r ≡ Nothing
+miss : (d : Row) (k : ℕ) (xs : List Row) (r : Row) → ((j : ℕ) → j < length xs → get_or xs j d ≡ r → ⊥) → first_from k xs r ≡ None
 unfolding first_from
 miss d k [] r f = refl
 miss d k (x ∷ xs) r f = rw (ne_same x r (f 0 (omega arith)), miss d (suc k) xs r (λ j l. f (suc j) (suc-le-suc l)))
@@ -70,28 +70,15 @@ get_d_rows s d (suc n) i h =
     (eq-or-lt_of_le (le_of_suc-le-suc h))
 
 module _ (s : List ℕ) (n : ℕ) (r : Row) where
-  pub found_at : (i : ℕ) → i < n → row_at s i ≡ r → ((j : ℕ) → j < i → row_at s j ≡ r → ⊥) → first_in (rows s n) r ≡ At i
+  pub found_at : (i : ℕ) → i < n → row_at s i ≡ r → ((j : ℕ) → j < i → row_at s j ≡ r → ⊥) → first_in (rows s n) r ≡ Some i
   unfolding first_in
   found_at i h e f =
       hit r 0 (rows s n) r i (rw length-rows h) (get_d_rows s r n i h ∙ e) (λ j l p. f j l (sym (get_d_rows s r n j (omega arith)) ∙ p))
-      ∙ ap At (zero-add i)
+      ∙ ap Some (zero-add i)
 
-  pub found_none : ((j : ℕ) → j < n → row_at s j ≡ r → ⊥) → first_in (rows s n) r ≡ Nothing
+  pub found_none : ((j : ℕ) → j < n → row_at s j ≡ r → ⊥) → first_in (rows s n) r ≡ None
   unfolding first_in
   found_none f = miss r 0 (rows s n) r (λ j l p. let m : j < n = (rw length-rows at l) in f j m (sym (get_d_rows s r n j m) ∙ p))
-
--- the three ways out of `same`
-pub same-label : (x y : Row) → (x.label ≡ y.label → ⊥) → false ≡ same_row x y
-unfolding same_row
-same-label x y f = rw (ne_eqb x.label y.label f)
-
-pub same-high : (x y : Row) → x.label ≡ y.label → (x.high ≡ y.high → ⊥) → false ≡ same_row x y
-unfolding same_row
-same-high x y p f = rw (eq-eqb x.label y.label p, ne_eqb x.high y.high f)
-
-pub same_low : (x y : Row) → x.label ≡ y.label → x.high ≡ y.high → eqb x.low y.low ≡ same_row x y
-unfolding same_row
-same_low x y p q = rw (eq-eqb x.label y.label p, eq-eqb x.high y.high q)
 
 -- what a call of `same` on a row that was read says
 pub said_same : {b : Bool} {x y z : Row} → b ≡ same_row x y → x ≡ z → b ≡ true → z ≡ y
@@ -141,20 +128,20 @@ unfolding rows
 rows-put s n r h = rw (add-one n, rows_ext (put_at s n r) s n (λ i l. put_other s n r i (omega arith)), put_same s n r h)
 
 -- the search found nothing: no row is equal
-not_at : {i : ℕ} {A : Type 0} → At i ≡ Nothing → A
+not_at : {i : ℕ} {A : Type 0} → Some i ≡ None → A
 not_at e = absurd (let z : ◌≡◌ {A = ℕ} 0 1 = cc in omega arith)
 
-missed : (d : Row) (k : ℕ) (xs : List Row) (r : Row) → first_from k xs r ≡ Nothing → (j : ℕ) → j < length xs → get_or xs j d ≡ r → ⊥
+missed : (d : Row) (k : ℕ) (xs : List Row) (r : Row) → first_from k xs r ≡ None → (j : ℕ) → j < length xs → get_or xs j d ≡ r → ⊥
 unfolding first_from
 missed d k [] r e j h p = omega arith
 missed d k (x ∷ xs) r e j h p = go (same_row x r) refl (missed d (suc k) xs r) j h p
   where
-    go : (b : Bool) → same_row x r ≡ b → (first_from (suc k) xs r ≡ Nothing → (j : ℕ) → j < length xs → get_or xs j d ≡ r → ⊥)
+    go : (b : Bool) → same_row x r ≡ b → (first_from (suc k) xs r ≡ None → (j : ℕ) → j < length xs → get_or xs j d ≡ r → ⊥)
         → (j : ℕ) → j < suc (length xs) → get_or (x ∷ xs) j d ≡ r → ⊥
-    go true q ih j h p = not_at (sym (ap (λ (b : Bool). cond b (At k) (first_from (suc k) xs r)) q) ∙ e)
+    go true q ih j h p = not_at (sym (ap (λ (b : Bool). cond b (Some k) (first_from (suc k) xs r)) q) ∙ e)
     go false q ih zero h p = same_false x r q p
-    go false q ih (suc j) h p = ih (sym (ap (λ (b : Bool). cond b (At k) (first_from (suc k) xs r)) q) ∙ e) j (le_of_suc-le-suc h) p
+    go false q ih (suc j) h p = ih (sym (ap (λ (b : Bool). cond b (Some k) (first_from (suc k) xs r)) q) ∙ e) j (le_of_suc-le-suc h) p
 
-pub none_found : (s : List ℕ) (n : ℕ) (r : Row) → first_in (rows s n) r ≡ Nothing → (j : ℕ) → j < n → row_at s j ≡ r → ⊥
+pub none_found : (s : List ℕ) (n : ℕ) (r : Row) → first_in (rows s n) r ≡ None → (j : ℕ) → j < n → row_at s j ≡ r → ⊥
 unfolding first_in
 none_found s n r e j h p = missed r 0 (rows s n) r e j (rw length-rows h) (get_d_rows s r n j h ∙ p)

@@ -1,7 +1,7 @@
 -- Laws of the hash index: the walk of a bucket's chain, and what adding a row keeps.
 use mathlib.Core.Bool.{Bool, true, false, cond}
 use mathlib.Core.Path.{◌≡◌, refl, sym, ap, subst, ◌∙◌}
-use mathlib.Core.Logic.{◌⊎◌, ⊎_elim}
+use mathlib.Core.Logic.{⊎_elim}
 use mathlib.Core.List.{List, [], ◌∷◌, ◌++◌}
 use Prim.Native.Nat.{ℕ, ◌+◌, ◌-◌, ◌*◌, ◌<◌, ◌≤◌, zero-le}
 use native.Mathlib.Omega.{arith}
@@ -10,8 +10,6 @@ use lib.ListN.{length, get_or, set, length-set, replicate, length-replicate, get
 use lib.Seq.{get_or-set_same, get_or-set_other}
 use lib.Dec.{eqb}
 use Rattle.table.specs.declared.Row.{Row}
-use Rattle.table.specs.declared.Found.{Found}
-use Rattle.table.specs.declared.Found.TheVariants.{At, Nothing}
 use Rattle.table.specs.declared.Added.{Added}
 use Rattle.table.specs.declared.Added.TheVariants.{Old, New, Full}
 use Rattle.table.specs.Rows.{row_at, put_at, rows, first_in, same_row}
@@ -20,6 +18,7 @@ use Rattle.table.specs.ChainLaws.{test}
 use Rattle.table.specs.ChainedLaws.{chained-none, chained-as, chained_more, walking_start, walking_on, link-less}
 use Rattle.table.specs.Table.{buckets, most_indexed, hash_of, hash_at, Table, Addable, Clean, add_answer, add_rows, add_where, AddPost}
 use Rattle.table.proofs.RowLaws.{found_at, found_none, put_other, put_same, length-put, length-rows, rows-put, drop-put, none_found, said_same, said-other}
+use Rattle.std.specs.Prelude.{None, Option, Some}
 
 -- the walk of a chain for the row r
 pub record Walk (s : List ℕ) (count : ℕ) (r : Row) (at : ℕ) : Type 0 where
@@ -77,16 +76,16 @@ module _ (s heads links : List ℕ) (limit count : ℕ) (t : Table s heads links
 
 -- the three ways out of `find_or_add`
 module _ (s heads links : List ℕ) (limit count : ℕ) (t : Table s heads links limit count) (r : Row) where
-  pub post-old : (i : ℕ) → first_in (rows s count) r ≡ At i → AddPost s limit count r (Old i) s heads links
+  pub post-old : (i : ℕ) → first_in (rows s count) r ≡ Some i → AddPost s limit count r (Old i) s heads links
   unfolding add_answer add_rows
   post-old i e = record { answer = rw e; now-rows = rw e; rest = refl; table = t }
 
-  pub post-full : first_in (rows s count) r ≡ Nothing → count ≡ limit → AddPost s limit count r Full s heads links
+  pub post-full : first_in (rows s count) r ≡ None → count ≡ limit → AddPost s limit count r Full s heads links
   unfolding add_answer add_rows
   post-full e f =
       record { answer = rw (e, length-rows s count, eq-eqb count limit f); now-rows = rw (e, length-rows s count, eq-eqb count limit f); rest = refl; table = t }
 
-  pub post-new : first_in (rows s count) r ≡ Nothing → (count ≡ limit → ⊥) → (s' heads' links' : List ℕ) → s' ≡ put_at s count r
+  pub post-new : first_in (rows s count) r ≡ None → (count ≡ limit → ⊥) → (s' heads' links' : List ℕ) → s' ≡ put_at s count r
       → Table s' heads' links' limit (count + 1) → AddPost s limit count r (New count) s' heads' links'
   unfolding add_answer add_rows
   post-new e f s' heads' links' p t' = record {
@@ -101,55 +100,55 @@ module _ (limit : ℕ) (xs : List Row) (r : Row) where
   full? : Bool → Added
   full? b = cond b Full (New (length xs))
 
-  old-is : (i : ℕ) → Old i ≡ add_answer limit xs r → first_in xs r ≡ At i
+  old-is : (i : ℕ) → Old i ≡ add_answer limit xs r → first_in xs r ≡ Some i
   unfolding add_answer full?
   old-is i h = go (first_in xs r) refl (eqb (length xs) limit) refl
     where
-      go : (f : Found) → first_in xs r ≡ f → (b : Bool) → eqb (length xs) limit ≡ b → first_in xs r ≡ At i
-      go (At j) e b q = let k : Old i ≡ Old j = h ∙ ap (add_where limit xs) e in cc
-      go Nothing e true q = let k : Old i ≡ Full = h ∙ ap (add_where limit xs) e ∙ ap full? q in absurd (let z : ◌≡◌ {A = ℕ} 0 1 = cc in omega arith)
-      go Nothing e false q = let k : Old i ≡ New (length xs) = h ∙ ap (add_where limit xs) e ∙ ap full? q in absurd (let z : ◌≡◌ {A = ℕ} 0 1 = cc in omega arith)
+      go : (f : Option ℕ) → first_in xs r ≡ f → (b : Bool) → eqb (length xs) limit ≡ b → first_in xs r ≡ Some i
+      go (Some j) e b q = let k : Old i ≡ Old j = h ∙ ap (add_where limit xs) e in cc
+      go None e true q = let k : Old i ≡ Full = h ∙ ap (add_where limit xs) e ∙ ap full? q in absurd (let z : ◌≡◌ {A = ℕ} 0 1 = cc in omega arith)
+      go None e false q = let k : Old i ≡ New (length xs) = h ∙ ap (add_where limit xs) e ∙ ap full? q in absurd (let z : ◌≡◌ {A = ℕ} 0 1 = cc in omega arith)
 
-  new_is : (i : ℕ) → New i ≡ add_answer limit xs r → (first_in xs r ≡ Nothing) × (length xs ≡ limit → ⊥)
+  new_is : (i : ℕ) → New i ≡ add_answer limit xs r → (first_in xs r ≡ None) × (length xs ≡ limit → ⊥)
   unfolding add_answer full?
   new_is i h = go (first_in xs r) refl (eqb (length xs) limit) refl
     where
-      go : (f : Found) → first_in xs r ≡ f → (b : Bool) → eqb (length xs) limit ≡ b → (first_in xs r ≡ Nothing) × (length xs ≡ limit → ⊥)
-      go (At j) e b q = let k : New i ≡ Old j = h ∙ ap (add_where limit xs) e in absurd (let z : ◌≡◌ {A = ℕ} 0 1 = cc in omega arith)
-      go Nothing e true q = let k : New i ≡ Full = h ∙ ap (add_where limit xs) e ∙ ap full? q in absurd (let z : ◌≡◌ {A = ℕ} 0 1 = cc in omega arith)
-      go Nothing e false q = (e, eqb-false _ _ q)
+      go : (f : Option ℕ) → first_in xs r ≡ f → (b : Bool) → eqb (length xs) limit ≡ b → (first_in xs r ≡ None) × (length xs ≡ limit → ⊥)
+      go (Some j) e b q = let k : New i ≡ Old j = h ∙ ap (add_where limit xs) e in absurd (let z : ◌≡◌ {A = ℕ} 0 1 = cc in omega arith)
+      go None e true q = let k : New i ≡ Full = h ∙ ap (add_where limit xs) e ∙ ap full? q in absurd (let z : ◌≡◌ {A = ℕ} 0 1 = cc in omega arith)
+      go None e false q = (e, eqb-false _ _ q)
 
-  full_is : Full ≡ add_answer limit xs r → (first_in xs r ≡ Nothing) × (length xs ≡ limit)
+  full_is : Full ≡ add_answer limit xs r → (first_in xs r ≡ None) × (length xs ≡ limit)
   unfolding add_answer full?
   full_is h = go (first_in xs r) refl (eqb (length xs) limit) refl
     where
-      go : (f : Found) → first_in xs r ≡ f → (b : Bool) → eqb (length xs) limit ≡ b → (first_in xs r ≡ Nothing) × (length xs ≡ limit)
-      go (At j) e b q = let k : Full ≡ Old j = h ∙ ap (add_where limit xs) e in absurd (let z : ◌≡◌ {A = ℕ} 0 1 = cc in omega arith)
-      go Nothing e true q = (e, eqb-true _ _ q)
-      go Nothing e false q = let k : Full ≡ New (length xs) = h ∙ ap (add_where limit xs) e ∙ ap full? q in absurd (let z : ◌≡◌ {A = ℕ} 0 1 = cc in omega arith)
+      go : (f : Option ℕ) → first_in xs r ≡ f → (b : Bool) → eqb (length xs) limit ≡ b → (first_in xs r ≡ None) × (length xs ≡ limit)
+      go (Some j) e b q = let k : Full ≡ Old j = h ∙ ap (add_where limit xs) e in absurd (let z : ◌≡◌ {A = ℕ} 0 1 = cc in omega arith)
+      go None e true q = (e, eqb-true _ _ q)
+      go None e false q = let k : Full ≡ New (length xs) = h ∙ ap (add_where limit xs) e ∙ ap full? q in absurd (let z : ◌≡◌ {A = ℕ} 0 1 = cc in omega arith)
 
-  rows-old : (i : ℕ) → first_in xs r ≡ At i → add_rows limit xs r ≡ xs
+  rows-old : (i : ℕ) → first_in xs r ≡ Some i → add_rows limit xs r ≡ xs
   unfolding add_rows
   rows-old i e = rw e
 
-  rows_new : first_in xs r ≡ Nothing → (length xs ≡ limit → ⊥) → add_rows limit xs r ≡ xs ++ (r ∷ [])
+  rows_new : first_in xs r ≡ None → (length xs ≡ limit → ⊥) → add_rows limit xs r ≡ xs ++ (r ∷ [])
   unfolding add_rows
   rows_new e f = rw (e, ne_eqb (length xs) limit f)
 
 module _ {s : List ℕ} {limit count : ℕ} {r : Row} {x : Added} {s' heads' links' : List ℕ} (p : AddPost s limit count r x s' heads' links') where
-  pub case-old : (i : ℕ) → x ≡ Old i → (first_in (rows s count) r ≡ At i) × (rows s' count ≡ rows s count) × Table s' heads' links' limit count
+  pub case-old : (i : ℕ) → x ≡ Old i → (first_in (rows s count) r ≡ Some i) × (rows s' count ≡ rows s count) × Table s' heads' links' limit count
   case-old i e =
-      let f : first_in (rows s count) r ≡ At i = old-is limit (rows s count) r i (sym e ∙ p.answer) in
+      let f : first_in (rows s count) r ≡ Some i = old-is limit (rows s count) r i (sym e ∙ p.answer) in
       (f, rw e at p.now-rows ∙ rows-old limit (rows s count) r i f, rw e at p.table)
 
-  pub case-new : (i : ℕ) → x ≡ New i → (first_in (rows s count) r ≡ Nothing) × (rows s' (count + 1) ≡ rows s count ++ (r ∷ [])) × Table s' heads' links' limit (count + 1)
+  pub case-new : (i : ℕ) → x ≡ New i → (first_in (rows s count) r ≡ None) × (rows s' (count + 1) ≡ rows s count ++ (r ∷ [])) × Table s' heads' links' limit (count + 1)
   case-new i e =
-      let f : (first_in (rows s count) r ≡ Nothing) × (length (rows s count) ≡ limit → ⊥) = new_is limit (rows s count) r i (sym e ∙ p.answer) in
+      let f : (first_in (rows s count) r ≡ None) × (length (rows s count) ≡ limit → ⊥) = new_is limit (rows s count) r i (sym e ∙ p.answer) in
       (f.0, (rw e at p.now-rows) ∙ rows_new limit (rows s count) r f.0 f.1, rw e at p.table)
 
-  pub case_full : x ≡ Full → (first_in (rows s count) r ≡ Nothing) × (count ≡ limit)
+  pub case_full : x ≡ Full → (first_in (rows s count) r ≡ None) × (count ≡ limit)
   case_full e =
-      let f : (first_in (rows s count) r ≡ Nothing) × (length (rows s count) ≡ limit) = full_is limit (rows s count) r (sym e ∙ p.answer) in
+      let f : (first_in (rows s count) r ≡ None) × (length (rows s count) ≡ limit) = full_is limit (rows s count) r (sym e ∙ p.answer) in
       (f.0, sym (length-rows s count) ∙ f.1)
 
 -- a table with no rows, over a clean index; any words, any links
@@ -176,18 +175,18 @@ pub empty-made : (s : List ℕ) (n₁ n₂ limit : ℕ) → limit * 3 ≤ length
 empty-made s n₁ n₂ limit h₁ h₂ h₃ h₄ = empty s _ _ limit h₁ (rw length-replicate h₃) h₄ (clean-made n₁ h₂)
 
 -- the ways out of `find_or_add`, in the words of what `lookup` and `add` ensure, for `search`
-module _ {s heads links : List ℕ} {limit count : ℕ} {r : Row} {f : Found} (t : Table s heads links limit count) (l : f ≡ first_in (rows s count) r) where
-  pub out-old : {i : ℕ} → f ≡ At i → AddPost s limit count r (Old i) s heads links
+module _ {s heads links : List ℕ} {limit count : ℕ} {r : Row} {f : Option ℕ} (t : Table s heads links limit count) (l : f ≡ first_in (rows s count) r) where
+  pub out-old : {i : ℕ} → f ≡ Some i → AddPost s limit count r (Old i) s heads links
   out-old {i} e = post-old s heads links limit count t r i (sym l ∙ e)
 
-  pub out-full : f ≡ Nothing → count ≡ limit → AddPost s limit count r Full s heads links
+  pub out-full : f ≡ None → count ≡ limit → AddPost s limit count r Full s heads links
   out-full e h = post-full s heads links limit count t r (sym l ∙ e) h
 
-  pub out-new : f ≡ Nothing → (count ≡ limit → ⊥) → {s' heads' links' : List ℕ} → s' ≡ put_at s count r → Table s' heads' links' limit (count + 1)
+  pub out-new : f ≡ None → (count ≡ limit → ⊥) → {s' heads' links' : List ℕ} → s' ≡ put_at s count r → Table s' heads' links' limit (count + 1)
       → AddPost s limit count r (New count) s' heads' links'
   out-new e h p t' = post-new s heads links limit count t r (sym l ∙ e) h _ _ _ p t'
 
-  pub out-fresh : f ≡ Nothing → (i : ℕ) → i < count → row_at s i ≡ r → ⊥
+  pub out-fresh : f ≡ None → (i : ℕ) → i < count → row_at s i ≡ r → ⊥
   out-fresh e = none_found s count r (sym l ∙ e)
 
 -- the ways through `lookup`, in the words of what `row_at` and `same` ensure
@@ -196,11 +195,11 @@ module _ {s heads links : List ℕ} {limit count : ℕ} {r : Row} (t : Table s h
   look-start {b} {at} h e =
       record { walking = walking_start (chained t) (in-bucket s r) (omega (arith, h.0, h.1)) (e ∙ ap (λ (x : ℕ). get_or heads x 0) h.0) }
 
-  pub look_none : {at : ℕ} → Walk s count r at → at ≡ 0 → Nothing ≡ first_in (rows s count) r
+  pub look_none : {at : ℕ} → Walk s count r at → at ≡ 0 → None ≡ first_in (rows s count) r
   look_none w e = sym (found_none s count r (λ j l p. w.walking.passed j (omega arith) l p))
 
   module _ {at : ℕ} {x : Row} {b : Bool} (w : Walk s count r at) (n : at ≡ 0 → ⊥) (p : x ≡ row_at s (at - 1)) (q : b ≡ same_row x r) where
-    pub look_hit : b ≡ true → At (at - 1) ≡ first_in (rows s count) r
+    pub look_hit : b ≡ true → Some (at - 1) ≡ first_in (rows s count) r
     look_hit e =
         let z = said_same q p e in
         let m : at - 1 < count = omega (arith, w.walking.below) in

@@ -2,12 +2,11 @@
 -- and what finding or adding a row answers.
 use Rattle.std.specs.Prelude.{cond, ◌≡◌, List, [], ◌∷◌, ◌++◌, ℕ, ◌+◌, ◌*◌, ◌/◌, ◌%◌, ◌<◌, ◌≤◌, length, get_or, drop, eqb}
 use Rattle.table.specs.declared.Row.{Row}
-use Rattle.table.specs.declared.Found.{Found}
-use Rattle.table.specs.declared.Found.TheVariants.{At, Nothing}
 use Rattle.table.specs.declared.Added.{Added}
 use Rattle.table.specs.declared.Added.TheVariants.{Old, New, Full}
 use Rattle.table.specs.Rows.{row_at, rows, first_in}
 use Rattle.table.specs.Chains.{prev}
+use Rattle.std.specs.Prelude.{None, Option, Some}
 
 -- the number of buckets
 abbrev pub buckets : ℕ
@@ -58,17 +57,17 @@ pub record Clean (heads : List ℕ) : Type 0 where
 
 -- what finding or adding the row r in the rows xs, of which there may be `limit`, answers: the place where the row stood, or stands now,
 -- or that there is no room (document 01, Combination: refusal 9)
-abbrev pub add_where : ℕ → List Row → Found → Added
-add_where limit xs (At i) = Old i
-add_where limit xs Nothing = cond (eqb (length xs) limit) Full (New (length xs))
+abbrev pub add_where : ℕ → List Row → Option ℕ → Added
+add_where limit xs (Some i) = Old i
+add_where limit xs None = cond (eqb (length xs) limit) Full (New (length xs))
 
 unfoldable pub add_answer : ℕ → List Row → Row → Added
 add_answer limit xs r = add_where limit xs (first_in xs r)
 
 -- the rows then
-abbrev pub rows_where : List Row → Row → ℕ → Found → List Row
-rows_where xs r limit (At i) = xs
-rows_where xs r limit Nothing = cond (eqb (length xs) limit) xs (xs ++ (r ∷ []))
+abbrev pub rows_where : List Row → Row → ℕ → Option ℕ → List Row
+rows_where xs r limit (Some i) = xs
+rows_where xs r limit None = cond (eqb (length xs) limit) xs (xs ++ (r ∷ []))
 
 unfoldable pub add_rows : ℕ → List Row → Row → List Row
 add_rows limit xs r = rows_where xs r limit (first_in xs r)

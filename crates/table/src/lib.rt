@@ -11,18 +11,11 @@ const HALF: u64 = 4294967296;
 pub const BUCKETS: usize = 2048;
 
 // A row of a listing: label or leaf mark; true row or value; false row or 0.
-#[derive(Clone, Copy)]
+#[derive(Clone, Copy, PartialEq, Eq)]
 pub struct Row {
     pub label: u64,
     pub high: u64,
     pub low: u64,
-}
-
-// Where a row was found.
-#[derive(Clone, Copy)]
-pub enum Found {
-    At(usize),
-    Nothing,
 }
 
 // What adding a row answers: the place where it stood, or stands now, or that there is no room.
@@ -59,13 +52,7 @@ pub fn put(space: &mut [u64], i: usize, row: Row)
 pub fn same(x: Row, y: Row) -> bool
     ensures { result ≡ same_row x y }
 {
-    if x.label != y.label {
-        return false;
-    }
-    if x.high != y.high {
-        return false;
-    }
-    x.low == y.low
+    x == y
 }
 
 // The bucket of a row. All of the label and of `high` counts: labels of few places differ in their upper halves, scaled leaf values may agree in their
@@ -89,7 +76,7 @@ pub fn lookup(
     limit: usize,
     count: usize,
     row: Row,
-) -> Found
+) -> Option<usize>
     requires { Table space.now heads.now links.now limit count }
     ensures { result ≡ first_in (rows space.now count) row }
 {
@@ -98,11 +85,11 @@ pub fn lookup(
     while at != 0 {
         let i = at - 1;
         if same(row_at(space, i), row) {
-            return Found::At(i);
+            return Some(i);
         }
         at = basics::wide(links[i]);
     }
-    Found::Nothing
+    None
 }
 
 // Adds a row that is not there yet at the end.
@@ -136,12 +123,12 @@ pub fn find_or_add(
     requires { Table space.old heads.old links.old limit count }
     ensures { AddPost space.old limit count row result space.new heads.new links.new }
 {
-    let Found::At(i) = lookup(space, heads, links, limit, count, row) else {
-        if count == limit {
-            return Added::Full;
+    match lookup(space, heads, links, limit, count, row) {
+        Some(i) => Added::Old(i),
+        None if count == limit => Added::Full,
+        None => {
+            add(space, heads, links, limit, count, row);
+            Added::New(count)
         }
-        add(space, heads, links, limit, count, row);
-        return Added::New(count);
-    };
-    Added::Old(i)
+    }
 }

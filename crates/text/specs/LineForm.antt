@@ -3,8 +3,6 @@ use Rattle.std.specs.Prelude.{ℕ, ◌+◌, ◌-◌, List, [], ◌∷◌, Bool, 
 use Rattle.words.specs.Inner.{name_form}
 use Rattle.words.specs.Keys.{key_of}
 use Rattle.words.specs.declared.Key.{Key}
-use Rattle.words.specs.declared.Took.{Took}
-use Rattle.words.specs.declared.Took.TheVariants.{Bytes, Refused}
 use Rattle.forms.specs.declared.Sort.{Sort}
 use Rattle.forms.specs.declared.Sort.TheVariants.{Name, Variable}
 use Rattle.forms.specs.Form.{◌▹◌, byte, form, item_form, plain_form, diagram_form}
@@ -14,6 +12,7 @@ use Rattle.text.specs.declared.Kind.{Kind}
 use Rattle.text.specs.declared.Kind.TheVariants.{Bad}
 use Rattle.text.specs.Inner.{kinds}
 use Rattle.text.specs.Line.{most_line_bytes, keyword, shape_of}
+use Rattle.std.specs.Prelude.{None, Option, Some}
 
 -- the two keys are one
 unfoldable pub is_key : Key → Key → Bool
@@ -29,40 +28,40 @@ unfoldable pub kind_of : Key → Kind
 kind_of k = kind_in kinds k
 
 -- )
-unfoldable pub end_form : List ℕ → Took
-end_form s = Bytes 0 ▹ byte s 41
+unfoldable pub end_form : List ℕ → Option ℕ
+end_form s = Some 0 ▹ byte s 41
 
 -- a word
-unfoldable pub one_form : Sort → List ℕ → Took
-one_form k s = Bytes 0 ▹ byte s 32 ▹ form s (item_form k) ▹ byte s 41
+unfoldable pub one_form : Sort → List ℕ → Option ℕ
+one_form k s = Some 0 ▹ byte s 32 ▹ form s (item_form k) ▹ byte s 41
 
 -- two words
-unfoldable pub two_form : Sort → Sort → List ℕ → Took
-two_form k l s = Bytes 0 ▹ byte s 32 ▹ form s (item_form k) ▹ byte s 32 ▹ form s (item_form l) ▹ byte s 41
+unfoldable pub two_form : Sort → Sort → List ℕ → Option ℕ
+two_form k l s = Some 0 ▹ byte s 32 ▹ form s (item_form k) ▹ byte s 32 ▹ form s (item_form l) ▹ byte s 41
 
 -- a name and words
-unfoldable pub listed_form : Sort → List ℕ → Took
-listed_form k s = Bytes 0 ▹ byte s 32 ▹ form s (plain_form k)
+unfoldable pub listed_form : Sort → List ℕ → Option ℕ
+listed_form k s = Some 0 ▹ byte s 32 ▹ form s (plain_form k)
 
 -- two names and words
-unfoldable pub paired_form : Sort → List ℕ → Took
-paired_form k s = Bytes 0 ▹ byte s 32 ▹ form s (item_form Name) ▹ byte s 32 ▹ form s (plain_form k)
+unfoldable pub paired_form : Sort → List ℕ → Option ℕ
+paired_form k s = Some 0 ▹ byte s 32 ▹ form s (item_form Name) ▹ byte s 32 ▹ form s (plain_form k)
 
 -- a diagram, inside one bracket
-unfoldable pub drawn_form : List ℕ → Took
-drawn_form s = Bytes 0 ▹ byte s 32 ▹ form s (diagram_form (length s + 1) 1) ▹ byte s 41
+unfoldable pub drawn_form : List ℕ → Option ℕ
+drawn_form s = Some 0 ▹ byte s 32 ▹ form s (diagram_form (length s + 1) 1) ▹ byte s 41
 
 -- a name and a diagram
-unfoldable pub named_form : List ℕ → Took
-named_form s = Bytes 0 ▹ byte s 32 ▹ form s (item_form Name) ▹ byte s 32 ▹ form s (diagram_form (length s + 1) 1) ▹ byte s 41
+unfoldable pub named_form : List ℕ → Option ℕ
+named_form s = Some 0 ▹ byte s 32 ▹ form s (item_form Name) ▹ byte s 32 ▹ form s (diagram_form (length s + 1) 1) ▹ byte s 41
 
 -- (name ?a ..) and a diagram
-unfoldable pub headed_form : List ℕ → Took
+unfoldable pub headed_form : List ℕ → Option ℕ
 headed_form s =
-    Bytes 0 ▹ byte s 32 ▹ byte s 40 ▹ form s (plain_form Variable) ▹ byte s 32 ▹ form s (diagram_form (length s + 1) 1) ▹ byte s 41
+    Some 0 ▹ byte s 32 ▹ byte s 40 ▹ form s (plain_form Variable) ▹ byte s 32 ▹ form s (diagram_form (length s + 1) 1) ▹ byte s 41
 
 -- what stands behind the key word, with the line's closing bracket
-unfoldable pub shape_form : Shape → List ℕ → Took
+unfoldable pub shape_form : Shape → List ℕ → Option ℕ
 shape_form Nothing s = end_form s
 shape_form (One k) s = one_form k s
 shape_form (Two k l) s = two_form k l s
@@ -71,19 +70,19 @@ shape_form (Paired k) s = paired_form k s
 shape_form Drawn s = drawn_form s
 shape_form Named s = named_form s
 shape_form Headed s = headed_form s
-shape_form Never s = Refused
+shape_form Never s = None
 
-unfoldable pub words_form : Kind → List ℕ → Took
+unfoldable pub words_form : Kind → List ℕ → Option ℕ
 words_form k s = shape_form (shape_of k) s
 
 -- the kind k where the words behind the key word are all of the l bytes
-abbrev pub whole : Took → ℕ → Kind → Kind
-whole (Bytes m) l k = cond (eqb m l) k Bad
-whole Refused l k = Bad
+abbrev pub whole : Option ℕ → ℕ → Kind → Kind
+whole (Some m) l k = cond (eqb m l) k Bad
+whole None l k = Bad
 
-abbrev pub named : Took → (ℕ → Kind) → Kind
-named (Bytes n) k = k n
-named Refused k = Bad
+abbrev pub named : Option ℕ → (ℕ → Kind) → Kind
+named (Some n) k = k n
+named None k = Bad
 
 -- a line behind its opening bracket
 unfoldable pub form_kind : List ℕ → Kind

@@ -6,8 +6,6 @@ use Rattle.words.specs.Inner.{name_form}
 use Rattle.words.specs.WordLaws.{name-sound, name-complete}
 use Rattle.words.specs.Keys.{key_of}
 use Rattle.words.specs.KeyLaws.{name-key}
-use Rattle.words.specs.declared.Took.{Took}
-use Rattle.words.specs.declared.Took.TheVariants.{Bytes, Refused}
 use Rattle.text.specs.declared.Kind.{Kind}
 use Rattle.text.specs.declared.Kind.TheVariants.{Bad}
 use Rattle.text.specs.Line.{most_line_bytes, most_open_brackets, is_bad, keyword, shape_of, Words, words_bytes, GoodWords, open_brackets, Line, kind_of_line, line_bytes, GoodLine}
@@ -15,18 +13,19 @@ use Rattle.text.specs.Line.Line.{line}
 use Rattle.text.specs.LineForm.{kind_of, words_form, whole, named, form_kind, line_kind}
 use Rattle.text.specs.KeywordLaws.{keyword-name, keyword-kind, kind-key}
 use Rattle.text.specs.ShapeLaws.{ShapeOf, shape-sound, shape-complete, shape-stop}
+use Rattle.std.specs.Prelude.{None, Option, Some}
 
 -- the same by the kind of line
-words-sound : (k : Kind) (s : List ℕ) (n : ℕ) → words_form k s ≡ Bytes n → ShapeOf (shape_of k) (take n s)
+words-sound : (k : Kind) (s : List ℕ) (n : ℕ) → words_form k s ≡ Some n → ShapeOf (shape_of k) (take n s)
 unfolding words_form
 words-sound k s n e = shape-sound (shape_of k) s n e
 
 words-complete : (k : Kind) (w : Words k) → GoodWords k w → open_brackets k w ≤ most_open_brackets
-    → words_form k (words_bytes k w ++ 41 ∷ []) ≡ Bytes (length (words_bytes k w ++ 41 ∷ []))
+    → words_form k (words_bytes k w ++ 41 ∷ []) ≡ Some (length (words_bytes k w ++ 41 ∷ []))
 unfolding words_form
 words-complete k w g h = shape-complete (shape_of k) w g h
 
-form-complete : (a W : List ℕ) (k : Kind) → name_form (a ++ W) ≡ Bytes (length a) → kind_of (key_of a) ≡ k → words_form k W ≡ Bytes (length W)
+form-complete : (a W : List ℕ) (k : Kind) → name_form (a ++ W) ≡ Some (length a) → kind_of (key_of a) ≡ k → words_form k W ≡ Some (length W)
     → form_kind (a ++ W) ≡ k
 unfolding form_kind
 form-complete a W k p q e =
@@ -57,14 +56,14 @@ form-sound : (u : List ℕ) (k : Kind) → form_kind u ≡ k → is_bad k ≡ fa
 unfolding form_kind
 form-sound u k e h = at_name (name_form u) refl e
   where
-    at_name : (t : Took) → name_form u ≡ t
+    at_name : (t : Option ℕ) → name_form u ≡ t
         → named t (λ n. whole (words_form (kind_of (key_of (take n u))) (drop n u)) (length u - n) (kind_of (key_of (take n u)))) ≡ k → FormOf u k
-    at_name Refused p e = bad k e h
-    at_name (Bytes n) p e = at_words (words_form (kind_of (key_of (take n u))) (drop n u)) refl e
+    at_name None p e = bad k e h
+    at_name (Some n) p e = at_words (words_form (kind_of (key_of (take n u))) (drop n u)) refl e
       where
-        at_words : (r : Took) → words_form (kind_of (key_of (take n u))) (drop n u) ≡ r → whole r (length u - n) (kind_of (key_of (take n u))) ≡ k → FormOf u k
-        at_words Refused q e = bad k e h
-        at_words (Bytes m) q e = at-end (flag (eqb m (length u - n))) e
+        at_words : (r : Option ℕ) → words_form (kind_of (key_of (take n u))) (drop n u) ≡ r → whole r (length u - n) (kind_of (key_of (take n u))) ≡ k → FormOf u k
+        at_words None q e = bad k e h
+        at_words (Some m) q e = at-end (flag (eqb m (length u - n))) e
           where
             at-end : Flag (eqb m (length u - n)) → cond (eqb m (length u - n)) (kind_of (key_of (take n u))) Bad ≡ k → FormOf u k
             at-end (is_false f) e = bad k (rw f at e) h

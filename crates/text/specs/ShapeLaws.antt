@@ -4,8 +4,6 @@ use Rattle.std.proofs.Common.{sym, ap, ◌∙◌, subst, append_assoc, append-ni
 use Rattle.words.specs.Bytes.{is_name_byte}
 use Rattle.words.specs.Words.{IsName}
 use Rattle.words.specs.WordLaws.{refused}
-use Rattle.words.specs.declared.Took.{Took}
-use Rattle.words.specs.declared.Took.TheVariants.{Bytes}
 use Rattle.forms.specs.declared.Sort.{Sort}
 use Rattle.forms.specs.declared.Sort.TheVariants.{Name, Variable, Parameter, Any, Number}
 use Rattle.forms.specs.Form.{◌▹◌, byte, form, item_form, plain_form, diagram_form}
@@ -17,6 +15,7 @@ use Rattle.text.specs.declared.Shape.{Shape}
 use Rattle.text.specs.declared.Shape.TheVariants.{Nothing, One, Two, Listed, Paired, Drawn, Named, Headed, Never}
 use Rattle.text.specs.Line.{most_open_brackets, variable_bytes, Item, item_bytes, GoodItem, ShapeWords, shape_bytes, GoodShape, shape_brackets}
 use Rattle.text.specs.LineForm.{end_form, one_form, two_form, listed_form, paired_form, drawn_form, named_form, headed_form, shape_form}
+use Rattle.std.specs.Prelude.{Option, Some}
 
 -- from the reader to the words
 
@@ -31,22 +30,22 @@ item-sound Parameter = parameter-sounds
 item-sound Any = term-sounds
 item-sound Number = number-sounds
 
-end-sound : (s : List ℕ) (n : ℕ) → end_form s ≡ Bytes n → take n s ≡ 41 ∷ []
+end-sound : (s : List ℕ) (n : ℕ) → end_form s ≡ Some n → take n s ≡ 41 ∷ []
 unfolding end_form
 end-sound s n e =
-    let p1 = seq-byte s (Bytes 0) 41 (omega arith) e in
+    let p1 = seq-byte s (Some 0) 41 (omega arith) e in
     let p0 = start s p1.1 in
     cc
 
 one-shape : (x : List ℕ) → (([] ++ (32 ∷ [])) ++ x) ++ (41 ∷ []) ≡ 32 ∷ (x ++ 41 ∷ [])
 one-shape x = refl
 
-one-sound : (k : Sort) (s : List ℕ) (n : ℕ) → one_form k s ≡ Bytes n → (x : Item k) × GoodItem k x × (take n s ≡ 32 ∷ (item_bytes k x ++ 41 ∷ []))
+one-sound : (k : Sort) (s : List ℕ) (n : ℕ) → one_form k s ≡ Some n → (x : Item k) × GoodItem k x × (take n s ≡ 32 ∷ (item_bytes k x ++ 41 ∷ []))
 unfolding one_form
 one-sound k s n e =
     let p3 = seq-byte s _ 41 (omega arith) e in
     let p2 = seq-form s _ (item_form k) p3.1 in
-    let p1 = seq-byte s (Bytes 0) 32 (omega arith) p2.1 in
+    let p1 = seq-byte s (Some 0) 32 (omega arith) p2.1 in
     let p0 = start s p1.1 in
     let x = item-sound k (drop p2.0 s) p2.2 p2.3 in
     (x.0, x.1, cc (one-shape (item_bytes k x.0)))
@@ -54,7 +53,7 @@ one-sound k s n e =
 two-shape : (a b : List ℕ) → (((([] ++ (32 ∷ [])) ++ a) ++ (32 ∷ [])) ++ b) ++ (41 ∷ []) ≡ 32 ∷ ((a ++ 32 ∷ b) ++ 41 ∷ [])
 two-shape a b = simp append_assoc
 
-two-sound : (k l : Sort) (s : List ℕ) (n : ℕ) → two_form k l s ≡ Bytes n
+two-sound : (k l : Sort) (s : List ℕ) (n : ℕ) → two_form k l s ≡ Some n
     → (x : Item k) × (y : Item l) × GoodItem k x × GoodItem l y × (take n s ≡ 32 ∷ ((item_bytes k x ++ 32 ∷ item_bytes l y) ++ 41 ∷ []))
 unfolding two_form
 two-sound k l s n e =
@@ -62,18 +61,18 @@ two-sound k l s n e =
     let p4 = seq-form s _ (item_form l) p5.1 in
     let p3 = seq-byte s _ 32 (omega arith) p4.1 in
     let p2 = seq-form s _ (item_form k) p3.1 in
-    let p1 = seq-byte s (Bytes 0) 32 (omega arith) p2.1 in
+    let p1 = seq-byte s (Some 0) 32 (omega arith) p2.1 in
     let p0 = start s p1.1 in
     let x = item-sound k (drop p2.0 s) p2.2 p2.3 in
     let y = item-sound l (drop p4.0 s) p4.2 p4.3 in
     (x.0, y.0, x.1, y.1, cc (two-shape (item_bytes k x.0) (item_bytes l y.0)))
 
-listed-sound : (k : Sort) (s : List ℕ) (n : ℕ) → listed_form k s ≡ Bytes n
+listed-sound : (k : Sort) (s : List ℕ) (n : ℕ) → listed_form k s ≡ Some n
     → (x : List ℕ) × (xs : List (Item k)) × IsName x × All (GoodItem k) xs × (take n s ≡ 32 ∷ ((x ++ many_bytes (item_bytes k) xs) ++ 41 ∷ []))
 unfolding listed_form
 listed-sound k s n e =
     let p2 = seq-form s _ (plain_form k) e in
-    let p1 = seq-byte s (Bytes 0) 32 (omega arith) p2.1 in
+    let p1 = seq-byte s (Some 0) 32 (omega arith) p2.1 in
     let p0 = start s p1.1 in
     let x = plain-sound (item_bytes k) (GoodItem k) k (item-sound k) (drop p2.0 s) p2.2 p2.3 in
     (x.0, x.1, x.2, x.3, cc (append_assoc x.0 (many_bytes (item_bytes k) x.1) (41 ∷ [])))
@@ -81,7 +80,7 @@ listed-sound k s n e =
 paired-shape : (a b v : List ℕ) → ((([] ++ (32 ∷ [])) ++ a) ++ (32 ∷ [])) ++ (b ++ (v ++ 41 ∷ [])) ≡ 32 ∷ ((a ++ 32 ∷ (b ++ v)) ++ 41 ∷ [])
 paired-shape a b v = simp append_assoc
 
-paired-sound : (k : Sort) (s : List ℕ) (n : ℕ) → paired_form k s ≡ Bytes n
+paired-sound : (k : Sort) (s : List ℕ) (n : ℕ) → paired_form k s ≡ Some n
     → (x y : List ℕ) × (xs : List (Item k)) × IsName x × IsName y × All (GoodItem k) xs
     × (take n s ≡ 32 ∷ ((x ++ 32 ∷ (y ++ many_bytes (item_bytes k) xs)) ++ 41 ∷ []))
 unfolding paired_form
@@ -89,24 +88,24 @@ paired-sound k s n e =
     let p4 = seq-form s _ (plain_form k) e in
     let p3 = seq-byte s _ 32 (omega arith) p4.1 in
     let p2 = seq-form s _ (item_form Name) p3.1 in
-    let p1 = seq-byte s (Bytes 0) 32 (omega arith) p2.1 in
+    let p1 = seq-byte s (Some 0) 32 (omega arith) p2.1 in
     let p0 = start s p1.1 in
     let x = name-sounds (drop p2.0 s) p2.2 p2.3 in
     let y = plain-sound (item_bytes k) (GoodItem k) k (item-sound k) (drop p4.0 s) p4.2 p4.3 in
     (x.0, y.0, y.1, x.1, y.2, y.3, cc (paired-shape x.0 y.0 (many_bytes (item_bytes k) y.1)))
 
-drawn-sound : (s : List ℕ) (n : ℕ) → drawn_form s ≡ Bytes n
+drawn-sound : (s : List ℕ) (n : ℕ) → drawn_form s ≡ Some n
     → (d : Diagram) × GoodDiagram d × (brackets d ≤ 63) × (take n s ≡ 32 ∷ (diagram_bytes d ++ 41 ∷ []))
 unfolding drawn_form
 drawn-sound s n e =
     let p3 = seq-byte s _ 41 (omega arith) e in
     let p2 = seq-form s _ (diagram_form (length s + 1) 1) p3.1 in
-    let p1 = seq-byte s (Bytes 0) 32 (omega arith) p2.1 in
+    let p1 = seq-byte s (Some 0) 32 (omega arith) p2.1 in
     let p0 = start s p1.1 in
     let d = diagram-sound (length s + 1) 1 (drop p2.0 s) p2.2 p2.3 in
     (d.0, d.1, d.2, cc (one-shape (diagram_bytes d.0)))
 
-named-sound : (s : List ℕ) (n : ℕ) → named_form s ≡ Bytes n
+named-sound : (s : List ℕ) (n : ℕ) → named_form s ≡ Some n
     → (x : List ℕ) × (d : Diagram) × IsName x × GoodDiagram d × (brackets d ≤ 63) × (take n s ≡ 32 ∷ ((x ++ 32 ∷ diagram_bytes d) ++ 41 ∷ []))
 unfolding named_form
 named-sound s n e =
@@ -114,7 +113,7 @@ named-sound s n e =
     let p4 = seq-form s _ (diagram_form (length s + 1) 1) p5.1 in
     let p3 = seq-byte s _ 32 (omega arith) p4.1 in
     let p2 = seq-form s _ (item_form Name) p3.1 in
-    let p1 = seq-byte s (Bytes 0) 32 (omega arith) p2.1 in
+    let p1 = seq-byte s (Some 0) 32 (omega arith) p2.1 in
     let p0 = start s p1.1 in
     let x = name-sounds (drop p2.0 s) p2.2 p2.3 in
     let d = diagram-sound (length s + 1) 1 (drop p4.0 s) p4.2 p4.3 in
@@ -124,7 +123,7 @@ headed-shape : (a v d : List ℕ) → (((([] ++ (32 ∷ [])) ++ (40 ∷ [])) ++ 
     ≡ 32 ∷ 40 ∷ ((a ++ (v ++ 41 ∷ 32 ∷ d)) ++ 41 ∷ [])
 headed-shape a v d = simp append_assoc
 
-headed-sound : (s : List ℕ) (n : ℕ) → headed_form s ≡ Bytes n
+headed-sound : (s : List ℕ) (n : ℕ) → headed_form s ≡ Some n
     → (x : List ℕ) × (vs : List (List ℕ)) × (d : Diagram) × IsName x × All IsName vs × GoodDiagram d × (brackets d ≤ 63)
     × (take n s ≡ 32 ∷ 40 ∷ ((x ++ (many_bytes variable_bytes vs ++ 41 ∷ 32 ∷ diagram_bytes d)) ++ 41 ∷ []))
 unfolding headed_form
@@ -134,13 +133,13 @@ headed-sound s n e =
     let p4 = seq-byte s _ 32 (omega arith) p5.1 in
     let p3 = seq-form s _ (plain_form Variable) p4.1 in
     let p2 = seq-byte s _ 40 (omega arith) p3.1 in
-    let p1 = seq-byte s (Bytes 0) 32 (omega arith) p2.1 in
+    let p1 = seq-byte s (Some 0) 32 (omega arith) p2.1 in
     let p0 = start s p1.1 in
     let x = plain-sound variable_bytes IsName Variable variable-sounds (drop p3.0 s) p3.2 p3.3 in
     let d = diagram-sound (length s + 1) 1 (drop p5.0 s) p5.2 p5.3 in
     (x.0, x.1, d.0, x.2, x.3, d.1, d.2, cc (headed-shape x.0 (many_bytes variable_bytes x.1) (diagram_bytes d.0)))
 
-pub shape-sound : (h : Shape) (s : List ℕ) (n : ℕ) → shape_form h s ≡ Bytes n → ShapeOf h (take n s)
+pub shape-sound : (h : Shape) (s : List ℕ) (n : ℕ) → shape_form h s ≡ Some n → ShapeOf h (take n s)
 unfolding shape_form
 shape-sound Nothing s n e = (tt, tt, omega arith, end-sound s n e)
 shape-sound (One k) s n e = let x = one-sound k s n e in (x.0, x.1, omega arith, x.2)
@@ -155,37 +154,37 @@ shape-sound Never s n e = absurd (refused e)
 -- from the words to the reader
 
 -- the reader takes all of the bytes l
-abbrev Takes : (List ℕ → Took) → List ℕ → Type 0
-Takes p l = p l ≡ Bytes (length l)
+abbrev Takes : (List ℕ → Option ℕ) → List ℕ → Type 0
+Takes p l = p l ≡ Some (length l)
 
 -- one form between a space and the closing bracket
-one-raw : (p : List ℕ → Took) (x : List ℕ) → p (x ++ 41 ∷ []) ≡ Bytes (length x)
-    → let s : List ℕ = 32 ∷ (x ++ 41 ∷ []) in Bytes 0 ▹ byte s 32 ▹ form s p ▹ byte s 41 ≡ Bytes (length s)
+one-raw : (p : List ℕ → Option ℕ) (x : List ℕ) → p (x ++ 41 ∷ []) ≡ Some (length x)
+    → let s : List ℕ = 32 ∷ (x ++ 41 ∷ []) in Some 0 ▹ byte s 32 ▹ form s p ▹ byte s 41 ≡ Some (length s)
 one-raw p x c = (at_byte (at-form p x (41 ∷ []) (at_byte (at-start (32 ∷ (x ++ 41 ∷ [])))) c)).took
 
 two_back : (x y : List ℕ) → (((32 ∷ x) ++ (32 ∷ [])) ++ y) ++ (41 ∷ []) ≡ 32 ∷ (x ++ 32 ∷ (y ++ 41 ∷ []))
 two_back x y = simp append_assoc
 
 -- two forms
-two-raw : (p q : List ℕ → Took) (x y : List ℕ) → p (x ++ 32 ∷ (y ++ 41 ∷ [])) ≡ Bytes (length x) → q (y ++ 41 ∷ []) ≡ Bytes (length y)
+two-raw : (p q : List ℕ → Option ℕ) (x y : List ℕ) → p (x ++ 32 ∷ (y ++ 41 ∷ [])) ≡ Some (length x) → q (y ++ 41 ∷ []) ≡ Some (length y)
     → let s : List ℕ = 32 ∷ (x ++ 32 ∷ (y ++ 41 ∷ [])) in
-    Bytes 0 ▹ byte s 32 ▹ form s p ▹ byte s 32 ▹ form s q ▹ byte s 41 ≡ Bytes (length s)
+    Some 0 ▹ byte s 32 ▹ form s p ▹ byte s 32 ▹ form s q ▹ byte s 41 ≡ Some (length s)
 two-raw p q x y c d =
     let s : List ℕ = 32 ∷ (x ++ 32 ∷ (y ++ 41 ∷ [])) in
     let a3 = at_byte (at-form p x (32 ∷ (y ++ 41 ∷ [])) (at_byte (at-start s)) c) in
-    (at_byte (at-form q y (41 ∷ []) a3 d)).took ∙ ap (λ l. Bytes (length l)) (two_back x y)
+    (at_byte (at-form q y (41 ∷ []) a3 d)).took ∙ ap (λ l. Some (length l)) (two_back x y)
 
 head-back : (x y : List ℕ) → (((32 ∷ 40 ∷ x) ++ (32 ∷ [])) ++ y) ++ (41 ∷ []) ≡ 32 ∷ 40 ∷ (x ++ 32 ∷ (y ++ 41 ∷ []))
 head-back x y = simp append_assoc
 
 -- two forms, the first behind a bracket
-head-raw : (p q : List ℕ → Took) (x y : List ℕ) → p (x ++ 32 ∷ (y ++ 41 ∷ [])) ≡ Bytes (length x) → q (y ++ 41 ∷ []) ≡ Bytes (length y)
+head-raw : (p q : List ℕ → Option ℕ) (x y : List ℕ) → p (x ++ 32 ∷ (y ++ 41 ∷ [])) ≡ Some (length x) → q (y ++ 41 ∷ []) ≡ Some (length y)
     → let s : List ℕ = 32 ∷ 40 ∷ (x ++ 32 ∷ (y ++ 41 ∷ [])) in
-    Bytes 0 ▹ byte s 32 ▹ byte s 40 ▹ form s p ▹ byte s 32 ▹ form s q ▹ byte s 41 ≡ Bytes (length s)
+    Some 0 ▹ byte s 32 ▹ byte s 40 ▹ form s p ▹ byte s 32 ▹ form s q ▹ byte s 41 ≡ Some (length s)
 head-raw p q x y c d =
     let s : List ℕ = 32 ∷ 40 ∷ (x ++ 32 ∷ (y ++ 41 ∷ [])) in
     let a3 = at_byte (at-form p x (32 ∷ (y ++ 41 ∷ [])) (at_byte (at_byte (at-start s))) c) in
-    (at_byte (at-form q y (41 ∷ []) a3 d)).took ∙ ap (λ l. Bytes (length l)) (head-back x y)
+    (at_byte (at-form q y (41 ∷ []) a3 d)).took ∙ ap (λ l. Some (length l)) (head-back x y)
 
 pub item-complete : (k : Sort) → CompleteFor (item_bytes k) (GoodItem k) (item_form k)
 item-complete Name = name-completes
@@ -225,14 +224,14 @@ paired-back : (x w : List ℕ) → ((32 ∷ x) ++ (32 ∷ [])) ++ w ≡ 32 ∷ (
 paired-back x w = append_assoc (32 ∷ x) (32 ∷ []) w
 
 -- two forms, nothing behind them
-paired-raw : (p q : List ℕ → Took) (x w : List ℕ) → p (x ++ 32 ∷ w) ≡ Bytes (length x) → Takes q w
-    → let s : List ℕ = 32 ∷ (x ++ 32 ∷ w) in Bytes 0 ▹ byte s 32 ▹ form s p ▹ byte s 32 ▹ form s q ≡ Bytes (length s)
+paired-raw : (p q : List ℕ → Option ℕ) (x w : List ℕ) → p (x ++ 32 ∷ w) ≡ Some (length x) → Takes q w
+    → let s : List ℕ = 32 ∷ (x ++ 32 ∷ w) in Some 0 ▹ byte s 32 ▹ form s p ▹ byte s 32 ▹ form s q ≡ Some (length s)
 paired-raw p q x w c d =
     let s : List ℕ = 32 ∷ (x ++ 32 ∷ w) in
     let a3 = at_byte (at-form p x (32 ∷ w) (at_byte (at-start s)) c) in
-    let b3 : At s (Bytes 0 ▹ byte s 32 ▹ form s p ▹ byte s 32) ((32 ∷ x) ++ (32 ∷ [])) (w ++ []) =
+    let b3 : At s (Some 0 ▹ byte s 32 ▹ form s p ▹ byte s 32) ((32 ∷ x) ++ (32 ∷ [])) (w ++ []) =
     record { bytes = a3.bytes ∙ ap (λ l. ((32 ∷ x) ++ (32 ∷ [])) ++ l) (sym (append-nil w)); took = a3.took } in
-    (at-form q w [] b3 (ap q (append-nil w) ∙ d)).took ∙ ap (λ l. Bytes (length l)) (paired-back x w)
+    (at-form q w [] b3 (ap q (append-nil w) ∙ d)).took ∙ ap (λ l. Some (length l)) (paired-back x w)
 
 paired-assoc : (x y v : List ℕ) → 32 ∷ (x ++ 32 ∷ (y ++ (v ++ 41 ∷ []))) ≡ 32 ∷ ((x ++ 32 ∷ (y ++ v)) ++ 41 ∷ [])
 paired-assoc x y v = simp append_assoc

@@ -6,8 +6,6 @@ use Prim.Native.Nat.{ℕ, ◌+◌, ◌-◌, ◌≤◌, ◌<◌}
 use native.Mathlib.Omega.{arith}
 use lib.Dec.{leb}
 use lib.ListN.{length, take, drop, length-drop}
-use Rattle.answers.specs.declared.Put.{Put}
-use Rattle.answers.specs.declared.Put.TheVariants as P
 use Rattle.session.specs.declared.Part.TheVariants.{Model}
 use Rattle.session.specs.Session.{Session}
 use Rattle.session.specs.Texts.{Lines, lines_of, Progress, after_line}
@@ -25,15 +23,17 @@ use Rattle.texts.specs.Inner.{progress_of, whole_of, next_end, behind_reply, Ste
 use Rattle.texts.specs.Whole.{unwritten, Whole, starts_from}
 use Rattle.texts.specs.StartLaws.{starts_none, starts-next, starts-alike}
 use Rattle.texts.proofs.RunLaws.{left_over, Answering, here-long, there, split, answering-next, answering-done}
+use Rattle.std.specs.Prelude.{Option}
+use Rattle.std.specs.Prelude.{Some, None}
 
 -- ===== One line =====
 
-reply-numbers : (put : Put) (n : Numbers) (number : ℕ) (met : Bool) (next : ℕ) (r : Answered) → (behind_reply put n number met next r).position.numbers ≡ n
-reply-numbers (P.At e) n number met next r = refl
-reply-numbers P.Full n number met next r = refl
+reply-numbers : (put : Option ℕ) (n : Numbers) (number : ℕ) (met : Bool) (next : ℕ) (r : Answered) → (behind_reply put n number met next r).position.numbers ≡ n
+reply-numbers (Some e) n number met next r = refl
+reply-numbers None n number met next r = refl
 
 -- where a reply leads, all is carried over that it carries over
-pub reply-carried : (put : Put) {n n' : Numbers} {w w' : Memory} → Carried n w n' w' → (number : ℕ) (met : Bool) (next : ℕ) (r : Answered) {a : Answered}
+pub reply-carried : (put : Option ℕ) {n n' : Numbers} {w w' : Memory} → Carried n w n' w' → (number : ℕ) (met : Bool) (next : ℕ) (r : Answered) {a : Answered}
     → a ≡ behind_reply put n' number met next r → Carried n w a.position.numbers w'
 reply-carried put {n} {n'} {w} {w'} c number met next r e =
     subst (λ (m : Numbers). Carried n w m w') (sym (ap (λ (x : Answered). x.position.numbers) e ∙ reply-numbers put n' number met next r)) c

@@ -8,7 +8,8 @@ use native.Mathlib.Numerals.{add-one}
 use borrow.Author.Tests.{le-leb, lt-leb, leb-true, leb-false, lt-ltb, le-ltb, ltb-true, ltb-false}
 use lib.Dec.{leb, ltb}
 use lib.ListN.{length, get_or, set, take, drop, length-drop, length-set}
-use lib.Seq.{take_all, take-suc, take-suc-set, length-take-le, drop-set-lt, drop-drop, drop-cons, drop_at, take-take, take-add}
+use lib.Seq.{take_all, take-suc, take-suc-set, length-take-le, drop-set-lt, drop-drop, drop-cons, drop_at, take-take, take-add, paste}
+use Rattle.std.proofs.lemmas.List.Edits.{take-paste}
 use Rattle.texts.specs.declared.Rest.{Rest}
 use Rattle.texts.specs.Ends.{line_length}
 use Rattle.texts.specs.Inner.{rest_of, rest_by, Keeps}
@@ -16,59 +17,16 @@ use Rattle.texts.specs.Streaming.{line_room}
 
 -- ===== Moved to the front =====
 
--- so many bytes are moved, and the others stay
-pub record Moving (block₀ : List ℕ) (place n i : ℕ) (block : List ℕ) : Type 0 where
-  pub within : i ≤ n
-  pub front : take i block ≡ take i (drop place block₀)
-  pub behind : drop i block ≡ drop i block₀
-  pub long : length block ≡ length block₀
+take-none : (s : List ℕ) → take 0 s ≡ []
+take-none [] = refl
+take-none (b ∷ s) = refl
 
-pub moving-first : (block : List ℕ) (place n : ℕ) → Moving block place n 0 block
-moving-first block place n = record { within = omega arith; front = none block (drop place block); behind = refl; long = refl }
-  where
-    none : (x y : List ℕ) → take 0 x ≡ take 0 y
-    none [] [] = refl
-    none [] (b ∷ y) = refl
-    none (a ∷ x) [] = refl
-    none (a ∷ x) (b ∷ y) = refl
-
-get_drop : (s : List ℕ) (m i : ℕ) → m + i < length s → get_or (drop m s) i 0 ≡ get_or s (m + i) 0
-get_drop s m i h =
-    let p = drop-drop i m s in
-    let x = drop-cons (drop m s) i 0 (omega (arith, length-drop m s)) in
-    let y = drop-cons s (m + i) 0 h in
-    ap (λ (t : List ℕ). get_or t 0 0) (sym x ∙ p ∙ y)
-
-module _ {block₀ : List ℕ} {place n i : ℕ} {block : List ℕ} (x : Moving block₀ place n i block) (room : place + n ≤ length block₀) (h : i < n) where
-  pub moving-next : Moving block₀ place n (i + 1) (set block i (get_or block (place + i) 0))
-  moving-next =
-      let v = get_or block (place + i) 0 in
-      let l : i < length block = omega (arith, x.long) in
-      let k : i + place ≡ place + i = omega arith in
-      let e : v ≡ get_or (drop place block₀) i 0 =
-      ap (λ (m : ℕ). get_or block m 0) (sym k) ∙ sym (get_drop block i place (omega (arith, x.long)))
-      ∙ ap (λ (t : List ℕ). get_or t place 0) x.behind ∙ get_drop block₀ i place (omega arith)
-      ∙ ap (λ (m : ℕ). get_or block₀ m 0) k ∙ sym (get_drop block₀ place i (omega arith)) in
-      record {
-        within = omega arith;
-        front = ap (λ (m : ℕ). take m (set block i v)) (add-one i) ∙ take-suc-set block i v l
-            ∙ (λ j. x.front j ++ (e j ∷ []))
-            ∙ sym (take-suc (drop place block₀) i 0 (omega (arith, length-drop place block₀)))
-            ∙ ap (λ (m : ℕ). take m (drop place block₀)) (sym (add-one i));
-        behind = ap (λ (m : ℕ). drop m (set block i v)) (add-one i) ∙ drop-set-lt (suc i) block i v (omega arith)
-            ∙ later block block₀ ∙ ap (λ (m : ℕ). drop m block₀) (sym (add-one i));
-        long = length-set block i v ∙ x.long;
-      }
-    where
-      later : (s t : List ℕ) → drop (suc i) block ≡ drop (suc i) block₀
-      later s t =
-          let k : i + 1 ≡ suc i = add-one i in
-          ap (λ (m : ℕ). drop m block) (sym k) ∙ sym (drop-drop 1 i block) ∙ ap (drop 1) x.behind ∙ drop-drop 1 i block₀ ∙ ap (λ (m : ℕ). drop m block₀) k
-
-pub moving-done : {block₀ : List ℕ} {place n i : ℕ} {block : List ℕ} → Moving block₀ place n i block → n ≤ i → take n block ≡ take n (drop place block₀)
-moving-done {block₀} {place} {n} {i} {block} x h =
-    let e : i ≡ n = omega (arith, x.within) in
-    subst (λ (k : ℕ). take k block ≡ take k (drop place block₀)) e x.front
+pub front-pasted : (s : List ℕ) (i j n : ℕ) → j ≡ i + n → j ≤ length s → take n (paste s 0 (drop i s) (j - i)) ≡ take n (drop i s)
+front-pasted s i j n e h =
+    let k : j - i ≡ n = omega arith in
+    let z : n ≡ 0 + n = omega arith in
+    rw k (ap (λ (m : ℕ). take m (paste s 0 (drop i s) n)) z ∙ take-paste s 0 (drop i s) n (omega arith) (omega (arith, length-drop i s))
+    ∙ ap (λ (t : List ℕ). t ++ take n (drop i s)) (take-none s))
 
 -- ===== The rest of a block =====
 

@@ -11,8 +11,6 @@ use lib.Seq.{length-take-le, take_at, drop_at, drop-drop}
 use lib.Dec.{leb, eqb}
 use Rattle.refusal.specs.declared.Refusal.TheVariants.{Form, Place}
 use Rattle.answers.specs.declared.Answer.TheVariants.{Refused}
-use Rattle.answers.specs.declared.Put.{Put}
-use Rattle.answers.specs.declared.Put.TheVariants as P
 use Rattle.answers.specs.Answers.{answer_line, answer_bytes}
 use Rattle.answers.specs.Inner.{Placed, put_answer, put_result}
 use Rattle.answers.specs.Writing.{most_bytes}
@@ -29,6 +27,8 @@ use Rattle.texts.specs.Inner.{filled_behind, Sends, progress_of, Going, behind_r
 use Rattle.texts.specs.Running.{Filled, fits, stopped, fill_closing, fill_rest, in_front, Fills}
 use Rattle.texts.specs.RunningLaws.{rest-none, closing-grows}
 use Rattle.texts.specs.Whole.{unwritten}
+use Rattle.std.specs.Prelude.{Option}
+use Rattle.std.specs.Prelude.{Some, None}
 
 -- ===== An answer that has room, or none =====
 
@@ -54,23 +54,23 @@ appended out place w h =
       long = omega (arith, length-append P Q, length-drop (place + length w) out);
     }
 
-module _ {out : List ℕ} {place : ℕ} {w : List ℕ} {r : Put} {out' : List ℕ} (x : Placed out place w r out') where
-  pub placed_at : (e : ℕ) → r ≡ P.At e → Appended out place w e out'
+module _ {out : List ℕ} {place : ℕ} {w : List ℕ} {r : Option ℕ} {out' : List ℕ} (x : Placed out place w r out') where
+  pub placed_at : (e : ℕ) → r ≡ Some e → Appended out place w e out'
   unfolding put_answer put_result
   placed_at e q = go (leb (place + length w) (length out)) refl (sym q ∙ x.answer) x.result
     where
-      go : (b : Bool) → leb (place + length w) (length out) ≡ b → P.At e ≡ cond b (P.At (place + length w)) P.Full
+      go : (b : Bool) → leb (place + length w) (length out) ≡ b → Some e ≡ cond b (Some (place + length w)) None
           → out' ≡ cond b (take place out ++ w ++ drop (place + length w) out) out → Appended out place w e out'
       go true t a g =
           let k : e ≡ place + length w = cc in
           rw (k, g) (appended out place w (leb-true (place + length w) (length out) t))
       go false t a g = absurd (let z : ◌≡◌ {A = ℕ} 0 1 = cc in omega arith)
 
-  pub placed-full : r ≡ P.Full → (length out < place + length w) × (out' ≡ out)
+  pub placed-full : r ≡ None → (length out < place + length w) × (out' ≡ out)
   unfolding put_answer put_result
   placed-full q = go (leb (place + length w) (length out)) refl (sym q ∙ x.answer) x.result
     where
-      go : (b : Bool) → leb (place + length w) (length out) ≡ b → P.Full ≡ cond b (P.At (place + length w)) P.Full
+      go : (b : Bool) → leb (place + length w) (length out) ≡ b → None ≡ cond b (Some (place + length w)) None
           → out' ≡ cond b (take place out ++ w ++ drop (place + length w) out) out → (length out < place + length w) × (out' ≡ out)
       go true t a g = absurd (let z : ◌≡◌ {A = ℕ} 0 1 = cc in omega arith)
       go false t a g = (leb-false (place + length w) (length out) t, g)
@@ -78,20 +78,17 @@ module _ {out : List ℕ} {place : ℕ} {w : List ℕ} {r : Put} {out' : List �
 -- ===== A line =====
 
 -- a line with bytes was met before, or is this one
-pub met-before : {m : Bool} (s : List ℕ) → m ≡ true → true ≡ (m || has_bytes s)
-met-before s e = ap (λ (b : Bool). b || has_bytes s) (sym e)
-
 pub met-now : {m : Bool} (s : List ℕ) → m ≡ false → not (eqb (length s) 0) ≡ (m || has_bytes s)
 met-now [] e = ap (λ (b : Bool). b || false) (sym e)
 met-now (b ∷ s) e = ap not (ne_eqb (suc (length s)) 0 (λ h. omega arith)) ∙ ap (λ (c : Bool). c || true) (sym e)
 
 -- where a reply leads
-module _ (n : Numbers) (number : ℕ) (met : Bool) (next : ℕ) (r : Answered) {put : Put} where
-  pub reply-at : {e : ℕ} → put ≡ P.At e → behind_reply (P.At e) n number met next r ≡ behind_reply put n number met next r
-  reply-at i = ap (λ (z : Put). behind_reply z n number met next r) (sym i)
+module _ (n : Numbers) (number : ℕ) (met : Bool) (next : ℕ) (r : Answered) {put : Option ℕ} where
+  pub reply-at : {e : ℕ} → put ≡ Some e → behind_reply (Some e) n number met next r ≡ behind_reply put n number met next r
+  reply-at i = ap (λ (z : Option ℕ). behind_reply z n number met next r) (sym i)
 
-  pub reply-full : put ≡ P.Full → behind_reply P.Full n number met next r ≡ behind_reply put n number met next r
-  reply-full i = ap (λ (z : Put). behind_reply z n number met next r) (sym i)
+  pub reply-full : put ≡ None → behind_reply None n number met next r ≡ behind_reply put n number met next r
+  reply-full i = ap (λ (z : Option ℕ). behind_reply z n number met next r) (sym i)
 
 steps-by : {l : List ℕ} {next : ℕ} {r : Answered} {q : Progress} {out : List ℕ} {r' : Answered} {w : Memory} {out' : List ℕ} (b : Bool)
     → fits (length out) (after_line q l).bytes ≡ b → Going r'.position w out' → r'.full ≡ not b → r'.at ≡ cond b next r.at
@@ -131,8 +128,8 @@ module _ {s : List ℕ} (r : Answered) {w : Memory} {out : List ℕ} {sent : Sen
   unfolding after_line progress_of bytes
   stepped next {m} t {a} j = subst (λ (z : Answered). Steps s next r (progress_of r.position w out) out z w' out') (sym j) (go sent.put refl)
     where
-      at : (e : ℕ) → sent.put ≡ P.At e
-          → Steps s next r (progress_of r.position w out) out (behind_reply (P.At e) sent.numbers (r.position.lines + 1) m next r) w' out'
+      at : (e : ℕ) → sent.put ≡ Some e
+          → Steps s next r (progress_of r.position w out) out (behind_reply (Some e) sent.numbers (r.position.lines + 1) m next r) w' out'
       at e i =
           let y = sends in
           let a = placed_at y.placed e i in
@@ -143,8 +140,8 @@ module _ {s : List ℕ} (r : Answered) {w : Memory} {out : List ℕ} {sent : Sen
           (λ i. record { session = y.session i; lines = add-one r.position.lines i; met = t i; bytes = a.front i })
           short a.behind
 
-      full : sent.put ≡ P.Full
-          → Steps s next r (progress_of r.position w out) out (behind_reply P.Full sent.numbers (r.position.lines + 1) m next r) w' out'
+      full : sent.put ≡ None
+          → Steps s next r (progress_of r.position w out) out (behind_reply None sent.numbers (r.position.lines + 1) m next r) w' out'
       full i =
           let y = sends in
           let a = placed-full y.placed i in
@@ -155,9 +152,9 @@ module _ {s : List ℕ} (r : Answered) {w : Memory} {out : List ℕ} {sent : Sen
           (λ i. record { session = y.session i; lines = r.position.lines; met = r.position.met; bytes = take r.position.end (a.1 i) })
           short (ap (drop r.position.end) a.1)
 
-      go : (put : Put) → sent.put ≡ put → Steps s next r (progress_of r.position w out) out (behind_reply put sent.numbers (r.position.lines + 1) m next r) w' out'
-      go (P.At e) i = at e i
-      go P.Full i = full i
+      go : (put : Option ℕ) → sent.put ≡ put → Steps s next r (progress_of r.position w out) out (behind_reply put sent.numbers (r.position.lines + 1) m next r) w' out'
+      go (Some e) i = at e i
+      go None i = full i
 
 -- ===== The end of a text =====
 
@@ -205,26 +202,26 @@ module _ (p : Position) (out : List ℕ) (h : p.end ≤ length out) (w : Memory)
         rw (sym m ∙ not-true u e, append-nil (take p.end out), le-leb (length (take p.end out)) (length out) (omega (arith, end-long)))
         (record { answer = ap Done (sym end-long); result = in_place out p.end h })
 
-    module _ (d : not u ≡ false) {r : Put} {out' : List ℕ} (x : Placed out p.end (answer_line (Refused Place 0)) r out') where
+    module _ (d : not u ≡ false) {r : Option ℕ} {out' : List ℕ} (x : Placed out p.end (answer_line (Refused Place 0)) r out') where
       long : length (take p.end out ++ answer_line (Refused Place 0)) ≡ p.end + length (answer_line (Refused Place 0))
       long = omega (arith, length-append (take p.end out) (answer_line (Refused Place 0)), end-long)
 
-      pub close-some : (e : ℕ) → r ≡ P.At e → Fills (fill_closing (length out) (progress_of p w out)) out (Done e) out'
+      pub close-some : (e : ℕ) → r ≡ Some e → Fills (fill_closing (length out) (progress_of p w out)) out (Done e) out'
       unfolding fill_closing closing progress_of session_of
       close-some e q =
           let a = placed_at x e q in
           rw (sym m ∙ not-false u d, le-leb (length (take p.end out ++ answer_line (Refused Place 0))) (length out) (omega (arith, a.end, a.within, long)))
           (record { answer = ap Done (a.end ∙ sym long); result = in-front h a })
 
-      pub close-full : r ≡ P.Full → Fills (fill_closing (length out) (progress_of p w out)) out (Full p.end p.lines) out'
+      pub close-full : r ≡ None → Fills (fill_closing (length out) (progress_of p w out)) out (Full p.end p.lines) out'
       unfolding fill_closing closing progress_of session_of
       close-full q =
           let a = placed-full x q in
           rw (sym m ∙ not-false u d, lt-leb (length (take p.end out ++ answer_line (Refused Place 0))) (length out) (omega (arith, a.0, long)), a.1)
           (stays (progress_of p w out) h refl)
 
-  module _ {r : Put} {out' : List ℕ} (x : Placed out p.end (answer_line (Refused Form (p.lines + 1))) r out') (b : ℕ) (s : List ℕ) where
-    pub rest-is : (e : ℕ) → r ≡ P.At e
+  module _ {r : Option ℕ} {out' : List ℕ} (x : Placed out p.end (answer_line (Refused Form (p.lines + 1))) r out') (b : ℕ) (s : List ℕ) where
+    pub rest-is : (e : ℕ) → r ≡ Some e
         → progress_of (record { numbers = p.numbers; lines = p.lines + 1; met = true; end = e }) w out' ≡ after_rest (progress_of p w out) (b ∷ s)
     unfolding after_rest progress_of reply_bytes answer_bytes
     rest-is e q =
@@ -240,7 +237,7 @@ module _ (p : Position) (out : List ℕ) (h : p.end ≤ length out) (w : Memory)
         rw (add-one p.lines) (omega (arith, length-append (take p.end out) (answer_line (Refused Form (suc p.lines))), end-long))
 
     -- the rest is refused, and the text ends
-    pub rest-closed : (e : ℕ) → r ≡ P.At e → {q : Ran} {out'' : List ℕ}
+    pub rest-closed : (e : ℕ) → r ≡ Some e → {q : Ran} {out'' : List ℕ}
         → ((v : Memory) → Fills (fill_closing (length out') (progress_of (record { numbers = p.numbers; lines = p.lines + 1; met = true; end = e }) v out')) out' q out'')
         → Fills (fill_rest (length out) (progress_of p w out) (b ∷ s)) out q out''
     unfolding fill_rest
@@ -254,7 +251,7 @@ module _ (p : Position) (out : List ℕ) (h : p.end ≤ length out) (w : Memory)
         rw (le-leb (length (after_rest (progress_of p w out) (b ∷ s)).bytes) (length out) (omega (arith, a.end, a.within)))
         (fills-over e a.behind (omega (arith, a.end, closing-grows (length out) (after_rest (progress_of p w out) (b ∷ s)))) k)
 
-    pub rest-full : r ≡ P.Full → Fills (fill_rest (length out) (progress_of p w out) (b ∷ s)) out (Full p.end p.lines) out'
+    pub rest-full : r ≡ None → Fills (fill_rest (length out) (progress_of p w out) (b ∷ s)) out (Full p.end p.lines) out'
     unfolding fill_rest progress_of
     rest-full i =
         let a = placed-full x i in

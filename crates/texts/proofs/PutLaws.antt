@@ -8,7 +8,6 @@ use lib.Seq.{length-take-le}
 use Rattle.diagram.specs.Sizes.{most_rows}
 use Rattle.spelling.specs.Spelling.{form_line}
 use Rattle.spelling.specs.SpellingLaws.{line-short}
-use Rattle.answers.specs.declared.Put.{Put}
 use Rattle.answers.specs.declared.Answer.{Answer}
 use Rattle.answers.specs.declared.Answer.TheVariants as A
 use Rattle.answers.specs.Answers.{answer_line, row_lines, count_lines, answer_bytes}
@@ -19,6 +18,7 @@ use Rattle.answering.specs.declared.Printed.TheVariants as P
 use Rattle.answering.specs.Printing.{printed_by}
 use Rattle.memory.specs.declared.Numbers.{Numbers}
 use Rattle.texts.specs.Putting.{tables_in, value_in, answer_in, Form, Puttable}
+use Rattle.std.specs.Prelude.{Option}
 
 printed-rows : (a : Answer) {m : ℕ} → P.Rows m ≡ printed_by a → a ≡ A.Show m
 printed-rows (A.Value v k s) e = let z : ◌≡◌ {A = ℕ} 0 1 = cc in absurd (omega arith)
@@ -78,11 +78,11 @@ pub form-long : {m : ℕ} {n : Numbers} {names ar value : List ℕ} → Form m n
 form-long {m} {n} {names} {ar} {value} f = sym (length-take-le (n.held.rows * 3) value f.task.rows)
 
 -- what is put of an answer: its bytes, if there is room; and they are few
-abbrev Puts : List ℕ → ℕ → List ℕ → Put → List ℕ → Type 0
+abbrev Puts : List ℕ → ℕ → List ℕ → Option ℕ → List ℕ → Type 0
 Puts out at b r out' = Placed out at b r out' × (length b ≤ most_bytes)
 
 module _ {a : Answer} {n : Numbers} {names ar value work : List ℕ} (t : Puttable a n names ar value work) {p : Printed} (q : p ≡ printed_by a) where
-  as-put : {out out' b : List ℕ} {at : ℕ} {r : Put} → answer_in a n names ar value work ≡ b → Puts out at b r out' → Puts out at (answer_in a n names ar value work) r out'
+  as-put : {out out' b : List ℕ} {at : ℕ} {r : Option ℕ} → answer_in a n names ar value work ≡ b → Puts out at b r out' → Puts out at (answer_in a n names ar value work) r out'
   as-put {out} {out'} {b} {at} {r} e x = subst (λ (bs : List ℕ). Puts out at bs r out') (sym e) x
 
   module _ {m : ℕ} (e : p ≡ P.Rows m) where
@@ -92,7 +92,7 @@ module _ {a : Answer} {n : Numbers} {names ar value work : List ℕ} (t : Puttab
     pub rows-there : m * 3 ≤ length value
     rows-there = t.there m rows_are
 
-    pub put-rows : {out out' : List ℕ} {at : ℕ} {r : Put} → Placed out at (row_lines value m) r out' × (m ≤ most_rows → length (row_lines value m) ≤ most_bytes)
+    pub put-rows : {out out' : List ℕ} {at : ℕ} {r : Option ℕ} → Placed out at (row_lines value m) r out' × (m ≤ most_rows → length (row_lines value m) ≤ most_bytes)
         → Puts out at (answer_in a n names ar value work) r out'
     unfolding answer_in answer_bytes
     put-rows b = as-put (ap (λ (c : Answer). answer_in c n names ar value work) rows_are) (b.0, b.1 (t.few m rows_are))
@@ -104,7 +104,7 @@ module _ {a : Answer} {n : Numbers} {names ar value work : List ℕ} (t : Puttab
     pub form-there : Form m n names ar value
     form-there = t.form m form-is
 
-    pub put-form : {out out' : List ℕ} {at : ℕ} {r : Put} → Placed out at (form_line ar (tables_in n names) (value_in n value)) r out'
+    pub put-form : {out out' : List ℕ} {at : ℕ} {r : Option ℕ} → Placed out at (form_line ar (tables_in n names) (value_in n value)) r out'
         → Puts out at (answer_in a n names ar value work) r out'
     unfolding answer_in answer_bytes
     put-form b =
@@ -121,12 +121,12 @@ module _ {a : Answer} {n : Numbers} {names ar value work : List ℕ} (t : Puttab
     pub counts-there : m * 2 ≤ length work
     counts-there = table-there.0
 
-    pub put-counts : {out out' : List ℕ} {at : ℕ} {r : Put} → Placed out at (count_lines work m) r out' × (m ≤ most_rows → length (count_lines work m) ≤ most_bytes)
+    pub put-counts : {out out' : List ℕ} {at : ℕ} {r : Option ℕ} → Placed out at (count_lines work m) r out' × (m ≤ most_rows → length (count_lines work m) ≤ most_bytes)
         → Puts out at (answer_in a n names ar value work) r out'
     unfolding answer_in answer_bytes
     put-counts b = as-put (ap (λ (c : Answer). answer_in c n names ar value work) counts-are.1) (b.0, b.1 table-there.1)
 
-  pub put-line : p ≡ P.Line → {out out' : List ℕ} {at : ℕ} {r : Put} → Placed out at (answer_line a) r out' × (length (answer_line a) ≤ line_bytes)
+  pub put-line : p ≡ P.Line → {out out' : List ℕ} {at : ℕ} {r : Option ℕ} → Placed out at (answer_line a) r out' × (length (answer_line a) ≤ line_bytes)
       → Puts out at (answer_in a n names ar value work) r out'
   unfolding answer_in
   put-line e b = as-put (printed-line value _ work a (sym e ∙ q)) (b.0, omega (arith, b.1))

@@ -12,7 +12,6 @@ use Rattle.diagram.specs.Listing.{listing, diagram_of}
 use Rattle.diagram.specs.Listings.{is-listing-diagram, is-listing-good}
 use Rattle.diagram_form.specs.Form.{is_too_long}
 use Rattle.diagram_form.proofs.FormLaws.{form-length}
-use Rattle.answers.specs.declared.Put.{Put}
 use Rattle.answers.specs.declared.Answer.{Answer}
 use Rattle.answers.specs.declared.Answer.TheVariants.{Show, Text, Count}
 use Rattle.answers.specs.Answers.{row_lines, count_lines, answer_bytes}
@@ -32,6 +31,7 @@ use Rattle.run_lines.specs.ReadyLaws.{stored-text}
 use Rattle.texts.specs.Putting.{tables_in, value_in, answer_in, Form, Puttable}
 use Rattle.texts.specs.ShowLaws.{rows-begin, counts-begin, begins, answers-same, held-count}
 use Rattle.texts.specs.Inner.{Sends}
+use Rattle.std.specs.Prelude.{Option}
 
 -- the rows to be shown are the listing that the words hold
 record Held (r : Said) (w : Memory) (m : ℕ) : Type 0 where
@@ -113,7 +113,7 @@ module _ {s : List ℕ} {number : ℕ} {n : Numbers} {w : Memory} (good : Kept n
       ∙ rows-begin (r.numbers.held.rows * 3) w'.value m (omega (arith, v.count)))
       (λ k m h. (spread-begun k m h).same)
 
-  pub sent : {put : Put} {out out' : List ℕ} {place : ℕ}
+  pub sent : {put : Option ℕ} {out out' : List ℕ} {place : ℕ}
       → Placed out place (answer_in r.answer r.numbers w'.names w'.arities w'.value work) put out'
       × (length (answer_in r.answer r.numbers w'.names w'.arities w'.value work) ≤ most_bytes)
       → Sends s number n w out place (record { numbers = r.numbers; put = put }) w' out'

@@ -7,8 +7,6 @@ use Rattle.session.specs.Replies.{reply}
 use Rattle.memory.specs.declared.Numbers.{Numbers}
 use Rattle.memory.specs.Inner.{Carried, Kept}
 use Rattle.memory.specs.Memory.{Memory, memory_of, session_of, Rooms, starts_of, work_words}
-use Rattle.answers.specs.declared.Put.{Put}
-use Rattle.answers.specs.declared.Put.TheVariants.{At, Full}
 use Rattle.session.specs.declared.Part.TheVariants.{Model}
 use Rattle.model_entry.specs.Starts.{Slot, has_start}
 use Rattle.texts.specs.Running.{Filled, fits, stopped, fill_rest}
@@ -20,6 +18,7 @@ use Rattle.texts.specs.Ends.{line_length}
 use Rattle.texts.specs.Streaming.{line_room, Stream, fresh, on_bytes}
 use Rattle.texts.specs.declared.Answered.{Answered}
 use Rattle.texts.specs.Whole.{unwritten, Whole, whole_from, starts_from}
+use Rattle.std.specs.Prelude.{None, Option, Some}
 
 -- behind the last whole line, or where an answer has no room
 abbrev pub filled_behind : ℕ → Bool → Progress → List ℕ → Filled
@@ -120,9 +119,9 @@ next_end block r free room =
     (cond (leb (r.position.end + free) room) (r.at + line_length (drop r.at block)) (length block))
 
 -- where a reply leads, if its answer has room or has none
-abbrev pub behind_reply : Put → Numbers → ℕ → Bool → ℕ → Answered → Answered
-behind_reply (At e) n number met next r = record { at = next; position = record { numbers = n; lines = number; met = met; end = e }; full = false }
-behind_reply Full n number met next r = record {
+abbrev pub behind_reply : Option ℕ → Numbers → ℕ → Bool → ℕ → Answered → Answered
+behind_reply (Some e) n number met next r = record { at = next; position = record { numbers = n; lines = number; met = met; end = e }; full = false }
+behind_reply None n number met next r = record {
   at = r.at;
   position = record { numbers = n; lines = r.position.lines; met = r.position.met; end = r.position.end };
   full = true;

@@ -19,7 +19,7 @@ ghost use Rattle.texts.specs.Putting.{tables_in, value_in, answer_in, Form, Putt
 ghost use Rattle.texts.specs.Sending.{most_lines};
 
 use answering::Printed;
-use answers::{Answer, Put};
+use answers::Answer;
 use label::Label;
 use memory::Numbers;
 use refusal::Refusal;
@@ -42,7 +42,7 @@ pub enum Ran {
 #[derive(Clone, Copy)]
 pub struct Sent {
     pub numbers: Numbers,
-    pub put: Put,
+    pub put: Option<usize>,
 }
 
 // How far a text is read: the session's numbers, the lines answered, whether one of them had bytes, and the bytes of their answers.
@@ -73,14 +73,12 @@ pub struct Rest {
 fn line_end(text: &[u8], at: usize) -> usize
     ensures { result ≡ at + line_length (drop at text.now) }
 {
-    let mut i = at;
-    while i < text.len() {
+    for i in at..text.len() {
         if text[i] == b'\n' {
             return i;
         }
-        i += 1;
     }
-    i
+    at.max(text.len())
 }
 
 // Puts the value as a form of so many bytes, and a line feed behind it, if there is room.
@@ -92,21 +90,18 @@ fn put_value(
     names: &[u64],
     arities: &[u64],
     value: &[u64],
-) -> Put
+) -> Option<usize>
     requires { Form bytes n names.now arities.now value.now }
     ensures { Placed out.old at (form_line arities.now (tables_in n names.now) (value_in n value.now)) result out.new }
 {
-    let counts = n.counts;
-    let held = n.held;
-    let rows = held.rows;
     spelling::put_form(
         out,
         at,
         arities,
         names,
-        counts.constants,
-        counts.predicates,
-        &value[..rows * 3],
+        n.counts.constants,
+        n.counts.predicates,
+        &value[..n.held.rows * 3],
         bytes,
     )
 }
@@ -121,13 +116,12 @@ fn put_reply(
     arities: &[u64],
     value: &[u64],
     work: &[u64],
-) -> Put
+) -> Option<usize>
     requires { Puttable answer n names.now arities.now value.now work.now }
     ensures placed { Placed out.old at (answer_in answer n names.now arities.now value.now work.now) result out.new }
     ensures work_len_bound { length (answer_in answer n names.now arities.now value.now work.now) ≤ most_bytes }
 {
-    let printed = answering::printed_by(answer);
-    match printed {
+    match answering::printed_by(answer) {
         Printed::Rows(rows) => answering::put_rows(out, at, value, rows),
         Printed::Form(bytes) => put_value(out, at, bytes, n, names, arities, value),
         Printed::Counts(lines) => answering::put_counts(out, at, work, lines),
@@ -157,12 +151,19 @@ pub fn reply_line(
     let said = lines::answer(
         line, number, n, names, arities, listings, table, state, value, work,
     );
-    let answer = said.answer;
-    let numbers = said.numbers;
-    let put = put_reply(out, at, answer, numbers, names, arities, value, work);
+    let put = put_reply(
+        out,
+        at,
+        said.answer,
+        said.numbers,
+        names,
+        arities,
+        value,
+        work,
+    );
     Sent {
-        numbers: numbers,
-        put: put,
+        numbers: said.numbers,
+        put,
     }
 }
 
@@ -170,10 +171,7 @@ pub fn reply_line(
 pub fn met_behind(met: bool, line: &[u8]) -> bool
     ensures { result ≡ (met || has_bytes line.now) }
 {
-    if met {
-        return true;
-    }
-    line.len() != 0
+    met || line.len() != 0
 }
 
 // Where a reply leads: behind its line, or to that line again, if its answer has no room.
@@ -181,26 +179,22 @@ fn behind_reply(sent: Sent, number: u64, met: bool, next: usize, r: Answered) ->
     ensures { result ≡ behind_reply sent.put sent.numbers number met next r }
 {
     let numbers = sent.numbers;
-    let p = r.position;
-    let put = sent.put;
-    match put {
-        Put::At(end) => Answered {
+    match sent.put {
+        Some(end) => Answered {
             at: next,
             position: Position {
-                numbers: numbers,
+                numbers,
                 lines: number,
-                met: met,
-                end: end,
+                met,
+                end,
             },
             full: false,
         },
-        Put::Full => Answered {
+        None => Answered {
             at: r.at,
             position: Position {
-                numbers: numbers,
-                lines: p.lines,
-                met: p.met,
-                end: p.end,
+                numbers,
+                ..r.position
             },
             full: true,
         },
@@ -245,8 +239,7 @@ fn next_end(block: &[u8], r: Answered, free: usize, room: usize) -> usize
     if r.full {
         return block.len();
     }
-    let p = r.position;
-    if room - p.end < free {
+    if room - r.position.end < free {
         return block.len();
     }
     line_end(block, r.at)
@@ -279,10 +272,9 @@ pub fn answer_whole(
     };
     let mut end = next_end(block, r, free, room);
     while end < block.len() {
-        let at = r.at;
         let next = end + 1;
         r = next_line(
-            &block[at..end],
+            &block[r.at..end],
             next,
             r,
             names,
@@ -300,7 +292,7 @@ pub fn answer_whole(
 }
 
 // Puts a refusal's line at a place, if there is room.
-fn put_refusal(out: &mut [u8], at: usize, why: Refusal, number: u64) -> Put
+fn put_refusal(out: &mut [u8], at: usize, why: Refusal, number: u64) -> Option<usize>
     ensures { Placed out.old at (answer_line (Refused why number)) result out.new }
 {
     answering::put_answer(out, at, Answer::Refused(why, number))
@@ -321,16 +313,13 @@ fn close(p: Position, out: &mut [u8]) -> Ran
     requires { p.end ≤ length out.old }
     ensures { (w : Memory) → Fills (fill_closing (length out.old) (progress_of p w out.old)) out.old result out.new }
 {
-    let end = p.end;
-    let numbers = p.numbers;
-    let part = numbers.part;
-    if !is_unfinished(part, p.met) {
-        return Ran::Done(end);
+    if !is_unfinished(p.numbers.part, p.met) {
+        return Ran::Done(p.end);
     }
-    let Put::At(last) = put_refusal(out, end, Refusal::Place, 0) else {
-        return Ran::Full(end, p.lines);
-    };
-    Ran::Done(last)
+    match put_refusal(out, p.end, Refusal::Place, 0) {
+        Some(end) => Ran::Done(end),
+        None => Ran::Full(p.end, p.lines),
+    }
 }
 
 // The end of a text with a last line that no line feed ends: it is refused.
@@ -340,17 +329,16 @@ fn close_rest(p: Position, out: &mut [u8]) -> Ran
     ensures { (w : Memory) (b : ℕ) (s : List ℕ) → Fills (fill_rest (length out.old) (progress_of p w out.old) (b ∷ s)) out.old result out.new }
 {
     let number = p.lines + 1;
-    let Put::At(end) = put_refusal(out, p.end, Refusal::Form, number) else {
+    let Some(end) = put_refusal(out, p.end, Refusal::Form, number) else {
         return Ran::Full(p.end, p.lines);
     };
-    let numbers = p.numbers;
-    let q = Position {
-        numbers: numbers,
+    let last = Position {
         lines: number,
         met: true,
-        end: end,
+        end,
+        ..p
     };
-    close(q, out)
+    close(last, out)
 }
 
 // The end of a text that came in blocks, of whose last line so many bytes are kept.
@@ -370,11 +358,10 @@ fn end_behind(long: usize, r: Answered, out: &mut [u8]) -> Ran
     requires { Ending long r out.old }
     ensures { (w : Memory) (s : List ℕ) → length s ≡ long - r.at → Fills (filled_behind (length out.old) r.full (progress_of r.position w out.old) s) out.old result out.new }
 {
-    let p = r.position;
     if r.full {
-        return Ran::Full(p.end, p.lines);
+        return Ran::Full(r.position.end, r.position.lines);
     }
-    end(long - r.at, p, out)
+    end(long - r.at, r.position, out)
 }
 
 // Before the first line.
@@ -385,7 +372,7 @@ pub fn begin(arities: &mut [u64], state: &mut [u64]) -> Position
 {
     let numbers = lines::open(arities, state);
     Position {
-        numbers: numbers,
+        numbers,
         lines: 0,
         met: false,
         end: 0,
@@ -466,11 +453,7 @@ fn move_front(block: &mut [u8], at: usize, n: usize)
     requires { at + n ≤ length block.old }
     ensures { take n block.new ≡ take n (drop at block.old) }
 {
-    let mut i = 0;
-    while i < n {
-        block[i] = block[at + i];
-        i += 1;
-    }
+    block.copy_within(at..at + n, 0);
 }
 
 // Keeps the bytes of a block from a place on that are not answered yet, at its front; of a line that no line feed ends as many as are needed.

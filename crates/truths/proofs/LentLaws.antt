@@ -1,19 +1,15 @@
 -- Laws of the words of a lent truth diagram.
 use mathlib.Core.Path.{◌≡◌, refl, sym, ◌∙◌}
-use mathlib.Core.Bool.{false, not}
+use mathlib.Core.Bool.{not}
 use mathlib.Core.List.{List}
 use Prim.Native.Nat.{ℕ, ◌+◌, ◌*◌, ◌-◌, ◌≤◌}
 use native.Mathlib.Omega.{arith}
-use lib.ListN.{length, get_or, take, drop, length-drop, drop_of_length-le, get_or-eq_default}
+use lib.ListN.{length, get_or, take, drop, length-drop, drop_of_length-le}
 use lib.Seq.{take_all, take-nil}
 use lib.Dec.{eqb}
 use borrow.Author.Tests.{eq-eqb, ne_eqb}
 use Rattle.regression.specs.RegressCall.{truth_words}
 use Rattle.truths.specs.TruthChecks.{has_truth}
-
--- `word_at`
-pub word_none : (ws : List ℕ) (i : ℕ) → length ws ≤ i → 0 ≡ get_or ws i 0
-word_none ws i h = sym (get_or-eq_default ws 0 h)
 
 -- `part`
 pub part_none : (ws : List ℕ) (first count : ℕ) → length ws ≤ first → take 0 (drop 0 ws) ≡ take count (drop first ws)
@@ -27,7 +23,7 @@ pub part-some : (ws : List ℕ) (first count : ℕ) → take (first + count - fi
 part-some ws first count = let e : first + count - first ≡ count = omega arith in rw e refl
 
 -- `has_truth`
-pub has-none : (spans : List ℕ) {p : ℕ} → p ≡ 0 → false ≡ has_truth spans p
+pub has-none : (spans : List ℕ) {p : ℕ} → p ≡ 0 → not (eqb p 0) ≡ has_truth spans p
 unfolding has_truth
 has-none spans {p} e = rw (eq-eqb p 0 e)
 

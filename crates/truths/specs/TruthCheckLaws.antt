@@ -15,7 +15,7 @@ use Rattle.label.specs.Limits.{first_variable, variable_count, minimum_count, pr
 use Rattle.label.proofs.ArityLaws.{arity-most, arity-words}
 use Rattle.diagram.specs.Diagram.{Diagram, leaf, branch, same}
 use Rattle.diagram.specs.Rows.{rows}
-use Rattle.diagram.specs.Words.{label_at, high_at, row_count, up_to, is_listing}
+use Rattle.diagram.specs.Words.{label_at, high_at, row_count, up_to}
 use Rattle.diagram.specs.WordLaws.{length-up_to, get_d_map, get_d-up_to}
 use Rattle.diagram.specs.Listing.{index, diagram_of}
 use Rattle.diagram.specs.ListingLaws.{index-less, get_d-index}
@@ -26,13 +26,12 @@ use Rattle.diagram.specs.Inner.{is_part}
 use Rattle.diagram.specs.RowLists.{row_tree}
 use Rattle.diagram.specs.RowLaws.{row-mem, mem-rows, part-self, part-high, part_low, part-leaf, part-branch, PartOf, it-is, of-high, of_low}
 use Rattle.listing.specs.Used.{Used}
-use Rattle.regression.specs.RegressCall.{truth_count, truth_words, truths_of, are_listings, leaf_above, unbound_variable, check_truth, check_truths}
+use Rattle.regression.specs.RegressCall.{truth_words, truths_of, are_listings, leaf_above, unbound_variable, check_truth, check_truths}
 use Rattle.regression.proofs.RegressCallLaws.{truths-none, truths-some, listings-none, listings-cons, listings-at, checks-none, checks-cons, above-leaf, above-branch}
 use Rattle.freeing.specs.FreeTasks.{any_set}
 use Rattle.freeing.specs.MarkLaws.{used-any}
-use Rattle.truths.specs.declared.Verdict.{Verdict}
-use Rattle.truths.specs.declared.Verdict.TheVariants.{Passed, Refused}
 use Rattle.truths.specs.TruthChecks.{Lent, is_listed_at, is_high_leaf, verdict_on, verdict_of, after_verdict, Between, Judged}
+use Rattle.std.specs.Prelude.{Err, Ok, Result}
 
 -- a leaf above m, and a term that occurs, by the rows of the diagram
 above-part : (m v : ℕ) → m < v → (d : Diagram) → is_part (leaf v) d ≡ true → leaf_above m d ≡ true
@@ -58,14 +57,6 @@ low_parts m (branch l t f) h =
 
 pub low_rows : (m : ℕ) (d : Diagram) → ((v : ℕ) → mem same (leaf v) (rows d) ≡ true → v ≤ m) → leaf_above m d ≡ false
 low_rows m d h = low_parts m d (λ v k. h v (mem-rows d (leaf v) ∙ k))
-
--- `is_listed`
-pub listed-none : (ar truths spans : List ℕ) (p : ℕ) {w : ℕ} → w ≡ get_or spans (p * 2 + 1) 0 → w ≡ 0 → true ≡ is_listed_at ar truths spans p
-listed-none ar truths spans p e z = rw (eq-eqb (truth_count spans p) 0 (sym e ∙ z))
-
-pub listed-some : (ar truths spans : List ℕ) (p : ℕ) {w : ℕ} {ws : List ℕ} {b : Bool} → w ≡ get_or spans (p * 2 + 1) 0 → (w ≡ 0 → ⊥) → ws ≡ truth_words truths spans p
-    → b ≡ is_listing ar ws → b ≡ is_listed_at ar truths spans p
-listed-some ar truths spans p {w} {ws} {b} e n q r = rw (ne_eqb (truth_count spans p) 0 (λ z. n (e ∙ z))) (r ∙ ap (is_listing ar) q)
 
 -- `are_listed`: those below p are listings
 pub record ListedTo (ar truths spans : List ℕ) (p : ℕ) : Type 0 where
@@ -104,7 +95,7 @@ module _ {ar truths spans : List ℕ} {p : ℕ} (g : ListedTo ar truths spans p)
       sym (g.left ∙ ap (are_listings ar truths spans p) n ∙ listings-none ar truths spans p)
 
 -- `is_high_leaf`
-pub high-branch : (ws : List ℕ) (k : ℕ) → (get_or ws (k * 3) 0 ≡ leaf_mark → ⊥) → false ≡ is_high_leaf ws k
+pub high-branch : (ws : List ℕ) (k : ℕ) → (get_or ws (k * 3) 0 ≡ leaf_mark → ⊥) → eqb (get_or ws (k * 3) 0) leaf_mark ≡ is_high_leaf ws k
 unfolding is_high_leaf label_at high_at
 high-branch ws k n = rw (ne_eqb (get_or ws (k * 3) 0) leaf_mark n)
 
@@ -174,14 +165,14 @@ unbound-is ar ws n {ms} h u e = e ∙ used-any ar (diagram_of ws) ms u (first_va
 
 -- `judge`
 module _ (ar ws : List ℕ) (n : ℕ) {b : Bool} (e : b ≡ leaf_above 1 (diagram_of ws)) where
-  pub judge-truth : b ≡ true → Refused Truth ≡ verdict_on ar n (diagram_of ws)
+  pub judge-truth : b ≡ true → Err Truth ≡ verdict_on ar n (diagram_of ws)
   judge-truth z = rw (sym e ∙ z)
 
   module _ (low : b ≡ false) {c : Bool} (d : c ≡ unbound_variable ar n (diagram_of ws)) where
-    pub judge-unbound : c ≡ true → Refused Unbound ≡ verdict_on ar n (diagram_of ws)
+    pub judge-unbound : c ≡ true → Err Unbound ≡ verdict_on ar n (diagram_of ws)
     judge-unbound z = rw (sym e ∙ low, sym d ∙ z)
 
-    pub judge-passed : c ≡ false → Passed ≡ verdict_on ar n (diagram_of ws)
+    pub judge-passed : c ≡ false → (Ok tt) ≡ verdict_on ar n (diagram_of ws)
     judge-passed z = rw (sym e ∙ low, sym d ∙ z)
 
 -- `judge_at`
@@ -193,7 +184,7 @@ module _ {ar truths spans : List ℕ} (lent : Lent ar truths spans) {p : ℕ} (a
   judge-arity = arity-most ar p lent.arities
 
   module _ {w : ℕ} (e : w ≡ get_or spans (p * 2 + 1) 0) where
-    pub judge-none : w ≡ 0 → Passed ≡ verdict_of ar (get_or ar p 0) (truths_of truths spans p)
+    pub judge-none : w ≡ 0 → (Ok tt) ≡ verdict_of ar (get_or ar p 0) (truths_of truths spans p)
     judge-none z = rw (truths-none truths spans p (sym e ∙ z))
 
     module _ (n : w ≡ 0 → ⊥) {ws : List ℕ} (q : ws ≡ truth_words truths spans p) where
@@ -201,7 +192,7 @@ module _ {ar truths spans : List ℕ} (lent : Lent ar truths spans) {p : ℕ} (a
       judge-valid = rw q (listing-is-valid ar (truth_words truths spans p)
           (listings-at ar truths spans 1 (predicate_count - 1) lent.listings p at.from_first (let z = at.to_last in omega arith) (λ z. n (e ∙ z))))
 
-      pub judge-some : {v : Verdict} → v ≡ verdict_on ar (get_or ar p 0) (diagram_of ws) → v ≡ verdict_of ar (get_or ar p 0) (truths_of truths spans p)
+      pub judge-some : {v : Result (Unit {0}) Refusal} → v ≡ verdict_on ar (get_or ar p 0) (diagram_of ws) → v ≡ verdict_of ar (get_or ar p 0) (truths_of truths spans p)
       judge-some r = rw (truths-some truths spans p (λ z. n (e ∙ z))) (r ∙ ap (λ (x : List ℕ). verdict_on ar (get_or ar p 0) (diagram_of x)) q)
 
 -- `judge_all`: those below p pass
@@ -217,7 +208,7 @@ check-verdict : (ar : List ℕ) (n : ℕ) (o : Option Diagram) (after : Outcome 
 check-verdict ar n none after = refl
 check-verdict ar n (some d) after = go (leaf_above 1 d) (unbound_variable ar n d)
   where
-    go : (a b : Bool) → cond a (refused Truth) (cond b (refused Unbound) after) ≡ after_verdict (cond a (Refused Truth) (cond b (Refused Unbound) Passed)) after
+    go : (a b : Bool) → cond a (refused Truth) (cond b (refused Unbound) after) ≡ after_verdict (cond a (Err Truth) (cond b (Err Unbound) (Ok tt))) after
     go true b = refl
     go false true = refl
     go false false = refl
@@ -226,30 +217,23 @@ module _ {ar truths spans : List ℕ} {p : ℕ} (g : JudgedTo ar truths spans p)
   pub judged-between : p < predicate_count → Between 1 p predicate_count
   judged-between h = record { from_first = g.first; to_last = h }
 
-  module _ (h : p < predicate_count) {v : Verdict} (e : v ≡ verdict_of ar (get_or ar p 0) (truths_of truths spans p)) where
+  module _ (h : p < predicate_count) {v : Result (Unit {0}) Refusal} (e : v ≡ verdict_of ar (get_or ar p 0) (truths_of truths spans p)) where
     judged-next : (after : Outcome Diagram) → check_truths ar (truths_of truths spans) 1 (predicate_count - 1) after
         ≡ after_verdict v (check_truths ar (truths_of truths spans) (suc p) (predicate_count - suc p) after)
     judged-next after =
         let n : predicate_count - p ≡ suc (predicate_count - suc p) = omega arith in
         g.left after ∙ ap (λ (m : ℕ). check_truths ar (truths_of truths spans) p m after) n ∙ checks-cons ar (truths_of truths spans) p (predicate_count - suc p) after
         ∙ check-verdict ar (get_or ar p 0) (truths_of truths spans p) (check_truths ar (truths_of truths spans) (suc p) (predicate_count - suc p) after)
-        ∙ ap (λ (x : Verdict). after_verdict x (check_truths ar (truths_of truths spans) (suc p) (predicate_count - suc p) after)) (sym e)
+        ∙ ap (λ (x : Result (Unit {0}) Refusal). after_verdict x (check_truths ar (truths_of truths spans) (suc p) (predicate_count - suc p) after)) (sym e)
 
-    pub judged-stop : {w : Refusal} → v ≡ Refused w → Judged ar truths spans v
-    judged-stop {w} z = record {
-      each = λ after. judged-next after
-          ∙ ap (λ (x : Verdict). after_verdict x (check_truths ar (truths_of truths spans) (suc p) (predicate_count - suc p) after)) z
-          ∙ sym (ap (λ (x : Verdict). after_verdict x after) z);
-    }
+  module _ (h : p < predicate_count) where
+    pub judged-stop : {w : Refusal} → Err w ≡ verdict_of ar (get_or ar p 0) (truths_of truths spans p) → Judged ar truths spans (Err w)
+    judged-stop e = record { each = judged-next h e }
 
-    pub judged-on : v ≡ Passed → JudgedTo ar truths spans (p + 1)
-    judged-on z = record {
-      first = omega arith;
-      last = omega arith;
-      left = rw add-one (λ after. judged-next after ∙ ap (λ (x : Verdict). after_verdict x (check_truths ar (truths_of truths spans) (suc p) (predicate_count - suc p) after)) z);
-    }
+    pub judged-on : Ok tt ≡ verdict_of ar (get_or ar p 0) (truths_of truths spans p) → JudgedTo ar truths spans (p + 1)
+    judged-on e = record { first = omega arith; last = omega arith; left = rw add-one (judged-next h e) }
 
-  pub judged-end : predicate_count ≤ p → Judged ar truths spans Passed
+  pub judged-end : predicate_count ≤ p → Judged ar truths spans (Ok tt)
   judged-end h = record {
     each = λ after.
         let n : predicate_count - p ≡ 0 = omega arith in

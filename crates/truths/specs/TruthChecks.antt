@@ -8,8 +8,8 @@ use Rattle.label.specs.Labels.{are_arities}
 use Rattle.diagram.specs.Diagram.{Diagram}
 use Rattle.diagram.specs.Words.{label_at, high_at, is_listing}
 use Rattle.regression.specs.RegressCall.{truth_count, are_listings, truth_words, truths_of, leaf_above, unbound_variable, check_truths}
-use Rattle.truths.specs.declared.Verdict.{Verdict}
-use Rattle.truths.specs.declared.Verdict.TheVariants.{Passed, Refused}
+use Rattle.refusal.specs.declared.Refusal.{Refusal}
+use Rattle.std.specs.Prelude.{Err, Ok, Result}
 
 -- predicate p has a truth diagram: it is not equality, and words are lent for it
 unfoldable pub has_truth : List ℕ → ℕ → Bool
@@ -29,11 +29,11 @@ unfoldable pub is_high_leaf : List ℕ → ℕ → Bool
 is_high_leaf ws k = eqb (label_at ws k) leaf_mark && ltb 1 (high_at ws k)
 
 -- 7, then 6, for the truth diagram of a predicate of arity n
-abbrev pub verdict_on : List ℕ → ℕ → Diagram → Verdict
-verdict_on ar n d = cond (leaf_above 1 d) (Refused Truth) (cond (unbound_variable ar n d) (Refused Unbound) Passed)
+abbrev pub verdict_on : List ℕ → ℕ → Diagram → Result (Unit {0}) Refusal
+verdict_on ar n d = cond (leaf_above 1 d) (Err Truth) (cond (unbound_variable ar n d) (Err Unbound) (Ok tt))
 
-abbrev pub verdict_of : List ℕ → ℕ → Option Diagram → Verdict
-verdict_of ar n none = Passed
+abbrev pub verdict_of : List ℕ → ℕ → Option Diagram → Result (Unit {0}) Refusal
+verdict_of ar n none = (Ok tt)
 verdict_of ar n (some d) = verdict_on ar n d
 
 pub record Between (a p b : ℕ) : Type 0 where
@@ -41,10 +41,10 @@ pub record Between (a p b : ℕ) : Type 0 where
   pub to_last : p < b
 
 -- what comes after a verdict
-abbrev pub after_verdict : {A : Type 0} → Verdict → Outcome A → Outcome A
-after_verdict Passed after = after
-after_verdict (Refused w) after = refused w
+abbrev pub after_verdict : {A : Type 0} → Result (Unit {0}) Refusal → Outcome A → Outcome A
+after_verdict (Ok tt) after = after
+after_verdict (Err w) after = refused w
 
 -- the verdict v on all lent truth diagrams
-pub record Judged (ar truths spans : List ℕ) (v : Verdict) : Type 0 where
+pub record Judged (ar truths spans : List ℕ) (v : Result (Unit {0}) Refusal) : Type 0 where
   pub each : (after : Outcome Diagram) → check_truths ar (truths_of truths spans) 1 (predicate_count - 1) after ≡ after_verdict v after

@@ -15,10 +15,7 @@ use refusal::Refusal;
 pub fn word_at(words: &[u64], i: usize) -> u64
     ensures { result ≡ get_or words.now i 0 }
 {
-    if i < words.len() {
-        return words[i];
-    }
-    0
+    words.get(i).copied().unwrap_or(0)
 }
 
 // The `count` words from `first` on, those that are there.
@@ -41,10 +38,7 @@ pub fn has_truth(spans: &[u64], p: usize) -> bool
     requires { p < predicate_count }
     ensures { result ≡ has_truth spans.now p }
 {
-    if p == 0 {
-        return false;
-    }
-    word_at(spans, p * 2 + 1) != 0
+    p != 0 && word_at(spans, p * 2 + 1) != 0
 }
 
 // The words of the truth diagram of predicate p.
@@ -62,31 +56,19 @@ fn is_listed(arities: &[u64], truths: &[u64], spans: &[u64], p: usize) -> bool
     requires { p < predicate_count }
     ensures { result ≡ is_listed_at arities.now truths.now spans.now p }
 {
-    if word_at(spans, p * 2 + 1) == 0 {
-        return true;
-    }
-    listing::check(arities, truth_words(truths, spans, p))
+    word_at(spans, p * 2 + 1) == 0 || listing::check(arities, truth_words(truths, spans, p))
 }
 
 // Whether all lent truth diagrams are listings.
 pub fn are_listed(arities: &[u64], truths: &[u64], spans: &[u64]) -> bool
     ensures { result ≡ are_listings arities.now truths.now spans.now 1 (predicate_count - 1) }
 {
-    let mut p = 1usize;
-    while p < Label::PREDICATES {
+    for p in 1usize..Label::PREDICATES {
         if !is_listed(arities, truths, spans, p) {
             return false;
         }
-        p += 1;
     }
     true
-}
-
-// What the checks of truth diagrams say.
-#[derive(Clone, Copy)]
-pub enum Verdict {
-    Passed,
-    Refused(Refusal),
 }
 
 // Whether row k is a leaf above 1.
@@ -94,10 +76,7 @@ fn is_high_leaf(words: &[u64], k: usize) -> bool
     requires { k * 3 + 3 ≤ length words.now }
     ensures { result ≡ is_high_leaf words.now k }
 {
-    if words[k * 3] != Label::LEAF {
-        return false;
-    }
-    words[k * 3 + 1] > 1
+    words[k * 3] == Label::LEAF && words[k * 3 + 1] > 1
 }
 
 // Whether a listing has a leaf above 1.
@@ -106,12 +85,10 @@ pub fn has_high_leaf(arities: &[u64], words: &[u64]) -> bool
     ensures { result ≡ leaf_above 1 (diagram_of words.now) }
 {
     let m = words.len() / 3;
-    let mut k = 0;
-    while k < m {
+    for k in 0..m {
         if is_high_leaf(words, k) {
             return true;
         }
-        k += 1;
     }
     false
 }
@@ -130,44 +107,39 @@ fn has_unbound(arities: &[u64], words: &[u64], n: usize) -> bool
 }
 
 // Checks the truth diagram of a predicate of arity n: 7, then 6.
-pub fn judge(arities: &[u64], words: &[u64], n: usize) -> Verdict
+pub fn judge(arities: &[u64], words: &[u64], n: usize) -> Result<(), Refusal>
     requires valid { Valid arities.now words.now }
     requires n_le_most_places { n ≤ most_places }
     ensures { result ≡ verdict_on arities.now n (diagram_of words.now) }
 {
     if has_high_leaf(arities, words) {
-        return Verdict::Refused(Refusal::Truth);
+        return Err(Refusal::Truth);
     }
     if has_unbound(arities, words, n) {
-        return Verdict::Refused(Refusal::Unbound);
+        return Err(Refusal::Unbound);
     }
-    Verdict::Passed
+    Ok(())
 }
 
 // Checks the truth diagram of predicate p, if there is one.
-fn judge_at(arities: &[u64], truths: &[u64], spans: &[u64], p: usize) -> Verdict
+fn judge_at(arities: &[u64], truths: &[u64], spans: &[u64], p: usize) -> Result<(), Refusal>
     requires lent { Lent arities.now truths.now spans.now }
     requires between { Between 1 p predicate_count }
     ensures { result ≡ verdict_of arities.now (get_or arities.now p 0) (truths_of truths.now spans.now p) }
 {
     if word_at(spans, p * 2 + 1) == 0 {
-        return Verdict::Passed;
+        return Ok(());
     }
     judge(arities, truth_words(truths, spans, p), arities[p] as usize)
 }
 
 // Checks all lent truth diagrams, one after the other.
-pub fn judge_all(arities: &[u64], truths: &[u64], spans: &[u64]) -> Verdict
+pub fn judge_all(arities: &[u64], truths: &[u64], spans: &[u64]) -> Result<(), Refusal>
     requires { Lent arities.now truths.now spans.now }
     ensures { Judged arities.now truths.now spans.now result }
 {
-    let mut p = 1usize;
-    while p < Label::PREDICATES {
-        let v = judge_at(arities, truths, spans, p);
-        let Verdict::Passed = v else {
-            return v;
-        };
-        p += 1;
+    for p in 1usize..Label::PREDICATES {
+        judge_at(arities, truths, spans, p)?;
     }
-    Verdict::Passed
+    Ok(())
 }

@@ -23,12 +23,12 @@ use Rattle.rename.specs.Inner.{Freeable}
 use Rattle.rename.specs.Freeing.{freed}
 use Rattle.rename.specs.FreeingLaws.{terms-freed, freed-good}
 use Rattle.rename.specs.VariableLaws.{occurs-term}
-use Rattle.regression.specs.declared.Freed.TheVariants.{Done}
 use Rattle.regression.specs.RegressCall.{freed_as, written_as, free_outcome, free_answer, free_result}
 use Rattle.regression.proofs.FreeCallLaws.{IsFreed, free-is, free-listing}
 use Rattle.uniqueness.specs.Meaning.{TheOnly, TheOnlyListing, free_meaning}
 use Rattle.uniqueness.proofs.OnlyLaws.{good-only, only-written}
 use Rattle.uniqueness.proofs.ThroughLaws.{renamed-means}
+use Rattle.std.specs.Prelude.{Ok}
 
 module _ (ar : List ℕ) (count : ℕ) (d r : Diagram) (g : Good ar d) (f : IsFreed ar count d r) where
   freeable : Freeable ar count d
@@ -66,12 +66,12 @@ module _ (ar words : List ℕ) (count : ℕ) where
       go (is_false e) = rw (free-listing ar words count out_length work_length e) accepted-refused
 
   -- where the call is answered with n rows, the result buffer begins with the only listing that means what freeing gives
-  pub free-only : (work_length : ℕ) (out : List ℕ) (n : ℕ) → free_answer ar words count (length out) work_length ≡ Done n
+  pub free-only : (work_length : ℕ) (out : List ℕ) (n : ℕ) → free_answer ar words count (length out) work_length ≡ Ok n
       → TheOnlyListing ar (free_meaning ar count (diagram_of words)) (take (n * 3) (free_result ar words count work_length out))
   unfolding free_answer free_result
   free-only work_length out n e = go (free_outcome ar words count (length out) work_length) (outcome-only (length out) work_length) e
     where
-      go : (o : Outcome Diagram) → Accepted (TheOnly ar (free_meaning ar count (diagram_of words))) o → freed_as o ≡ Done n
+      go : (o : Outcome Diagram) → Accepted (TheOnly ar (free_meaning ar count (diagram_of words))) o → freed_as o ≡ Ok n
           → TheOnlyListing ar (free_meaning ar count (diagram_of words)) (take (n * 3) (written_as o out))
       go (ok d) a q = let z : length (rows d) ≡ n = cc in only-written ar _ d n out z (a.given d refl)
       go (refused r) a q = let z : ◌≡◌ {A = ℕ} 0 1 = cc in absurd (omega arith)

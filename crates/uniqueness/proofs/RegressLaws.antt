@@ -20,7 +20,6 @@ use Rattle.diagram.specs.Listings.{is-listing-good}
 use Rattle.apply.proofs.GoodLaws.{fine-every}
 use Rattle.state.specs.State.{State, atom_of, holds, Fits}
 use Rattle.state.specs.Next.{next}
-use Rattle.regression.specs.declared.Regressed.TheVariants.{Done}
 use Rattle.regression.specs.Regression.{argument, Truths, truth_of, regressed}
 use Rattle.regression.proofs.RegressionLaws.{regressed-is}
 use Rattle.regression.specs.Result.{truth_given, truth_diagram, regressed_diagram}
@@ -32,6 +31,7 @@ use Rattle.regression.specs.RegressCall.{truths_of, are_listings, regressed_as, 
 use Rattle.regression.proofs.RegressCallLaws.{accepted-checks, truths-passed}
 use Rattle.uniqueness.specs.Meaning.{Choice, TheOnly, TheOnlyListing, used_at, next_choice, regress_meaning}
 use Rattle.uniqueness.proofs.OnlyLaws.{good-only, only-written}
+use Rattle.std.specs.Prelude.{Ok}
 
 -- ===== The meaning =====
 
@@ -84,12 +84,12 @@ module _ (ar value truths spans : List ℕ) where
       regressed-only ar (truths_of truths spans) (diagram_of value) (truths-passed ar truths spans (not-false _ l) pass) (is-listing-good ar value (not-false _ v))))))
 
   -- where the call is answered with n rows, the result buffer begins with the only listing that means the regression
-  pub regress-only : (work_length : ℕ) (out : List ℕ) (n : ℕ) → regress_answer ar value truths spans (length out) work_length ≡ Done n
+  pub regress-only : (work_length : ℕ) (out : List ℕ) (n : ℕ) → regress_answer ar value truths spans (length out) work_length ≡ Ok n
       → TheOnlyListing ar (regress_meaning ar (truths_of truths spans) (diagram_of value)) (take (n * 3) (regress_result ar value truths spans work_length out))
   unfolding regress_answer regress_result
   regress-only work_length out n e = go (regress_outcome ar value truths spans (length out) work_length) (outcome-only (length out) work_length) e
     where
-      go : (o : Outcome Diagram) → Accepted (TheOnly ar (regress_meaning ar (truths_of truths spans) (diagram_of value))) o → regressed_as o ≡ Done n
+      go : (o : Outcome Diagram) → Accepted (TheOnly ar (regress_meaning ar (truths_of truths spans) (diagram_of value))) o → regressed_as o ≡ Ok n
           → TheOnlyListing ar (regress_meaning ar (truths_of truths spans) (diagram_of value)) (take (n * 3) (written_as o out))
       go (ok d) a q = let z : length (rows d) ≡ n = cc in only-written ar _ d n out z (a.given d refl)
       go (refused r) a q = let z : ◌≡◌ {A = ℕ} 0 1 = cc in absurd (omega arith)

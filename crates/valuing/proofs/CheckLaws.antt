@@ -23,8 +23,6 @@ use Rattle.state.specs.Lent.{fact_count, fact_words, predicate_at, objects_at, a
 use Rattle.refusal.specs.declared.Refusal.TheVariants.{Range, Unbound, Listing}
 use Rattle.listing.specs.Used.{Used, set_from, marked_variables, marked_minimums}
 use Rattle.listing.specs.UsedLaws.{set-occurring, marked-variables, marked-minimums, marked-plain}
-use Rattle.state.specs.declared.Valued.{Valued}
-use Rattle.state.specs.declared.Valued.TheVariants.{Value, Refused}
 use Rattle.state.specs.ValueCall.{most_valuations, parameters, valuations}
 use Rattle.elimination.specs.Answer.{answer_by, is_too_large, value_answer}
 use Rattle.valuing.specs.Walks.{bound_number, bound_answer, is_few, InState}
@@ -32,6 +30,8 @@ use Rattle.valuing.specs.Tables.{tables_answer}
 use Rattle.state.proofs.LentLaws.{objects-length, object-at, all_made, all-at}
 use Rattle.fact_index.specs.Inner.{place_count, object_at}
 use Rattle.valuing.proofs.PassedLaws.{Passed, passed_start, passed_on, passed-no, passed-all}
+use Rattle.refusal.specs.declared.Refusal.{Refusal}
+use Rattle.std.specs.Prelude.{Err, Ok, Result}
 
 -- the objects of a row one by one
 pub record Fitting (ar : List ℕ) (n : ℕ) (facts : List ℕ) (i j : ℕ) : Type 0 where
@@ -127,14 +127,14 @@ module _ (ar : List ℕ) (n : ℕ) (constants facts : List ℕ) where
   unfolding is_state
   state-1 e = rw e
 
-  pub state-2 : {b : Bool} → (n ≡ 0 → ⊥) → b ≡ constants_below n constants → not b ≡ true → false ≡ is_state ar n constants facts
+  pub state-2 : {b : Bool} → (n ≡ 0 → ⊥) → b ≡ constants_below n constants → b ≡ false → b ≡ is_state ar n constants facts
   unfolding is_state
-  state-2 {b} z e f = rw (le-leb 1 n (omega arith), sym e ∙ not-true b f)
+  state-2 {b} z e f = f ∙ rw (le-leb 1 n (omega arith), sym e ∙ f)
 
-  pub state-3 : {b r : Bool} → (n ≡ 0 → ⊥) → b ≡ constants_below n constants → not b ≡ false
+  pub state-3 : {b r : Bool} → (n ≡ 0 → ⊥) → b ≡ constants_below n constants → b ≡ true
       → r ≡ every_below (fact_count facts) (names_below ar n facts) → r ≡ is_state ar n constants facts
   unfolding is_state
-  state-3 {b} z e f q = rw (le-leb 1 n (omega arith), sym e ∙ not-false b f) q
+  state-3 {b} z e f q = rw (le-leb 1 n (omega arith), sym e ∙ f) q
 
 -- the power
 module _ (n : ℕ) where
@@ -205,12 +205,12 @@ module _ {marks : List ℕ} {k : ℕ} (s : Unmarked marks k) where
 
 -- the answers of the value call, check by check
 module _ (ar ws : List ℕ) (n : ℕ) (constants facts : List ℕ) where
-  pub value-1 : {b : Bool} → b ≡ is_listing ar ws → not b ≡ true → Refused Listing ≡ value_answer ar ws n constants facts
+  pub value-1 : {b : Bool} → b ≡ is_listing ar ws → not b ≡ true → Err Listing ≡ value_answer ar ws n constants facts
   unfolding value_answer answer_by
   value-1 {b} e f = rw (sym e ∙ not-true b f)
 
   module _ {b c : Bool} (e : b ≡ is_listing ar ws) (f : not b ≡ false) (g : c ≡ is_state ar n constants facts) where
-    pub value-2 : not c ≡ true → Refused Range ≡ value_answer ar ws n constants facts
+    pub value-2 : not c ≡ true → Err Range ≡ value_answer ar ws n constants facts
     unfolding value_answer answer_by
     value-2 h = rw (sym e ∙ not-false b f, sym g ∙ not-true c h)
 
@@ -219,12 +219,12 @@ module _ (ar ws : List ℕ) (n : ℕ) (constants facts : List ℕ) where
       unfolding parameters
       has-parameters = ap (λ x. not (eqb x 0)) (sym (set-occurring ar (diagram_of ws) marks u first_parameter parameter_count (omega arith))) ∙ sym k
 
-      pub value-3 : p ≡ true → Refused Unbound ≡ value_answer ar ws n constants facts
+      pub value-3 : p ≡ true → Err Unbound ≡ value_answer ar ws n constants facts
       unfolding value_answer answer_by
       value-3 z = rw (sym e ∙ not-false b f, sym g ∙ not-false c h, has-parameters ∙ z)
 
       -- no parameter: the answer is that with no objects for the parameters
-      pub value-4 : p ≡ false → {r : Valued} → r ≡ bound_answer ar ws n constants facts [] → r ≡ value_answer ar ws n constants facts
+      pub value-4 : p ≡ false → {r : Result ℕ Refusal} → r ≡ bound_answer ar ws n constants facts [] → r ≡ value_answer ar ws n constants facts
       unfolding value_answer answer_by bound_answer
       value-4 z o = rw (sym e ∙ not-false b f, sym g ∙ not-false c h, has-parameters ∙ z) o
 
@@ -278,11 +278,11 @@ in-state {ar} {ws} e s u w = record { listed = e; lent = s; is-plain = plain-mar
 
 -- the two ways of working
 module _ (ar ws : List ℕ) (n : ℕ) (constants facts os : List ℕ) {few : Bool} (e : few ≡ is_few ar n ws) where
-  pub bound-few : few ≡ true → {x : ℕ} → x ≡ bound_number ar ws n constants facts os → Value x ≡ bound_answer ar ws n constants facts os
+  pub bound-few : few ≡ true → {x : ℕ} → x ≡ bound_number ar ws n constants facts os → Ok x ≡ bound_answer ar ws n constants facts os
   unfolding is_few bound_answer is_too_large state_of
-  bound-few t o = rw (not-true (ltb most_valuations (valuations ar n (diagram_of ws))) (sym e ∙ t)) (ap Value o)
+  bound-few t o = rw (not-true (ltb most_valuations (valuations ar n (diagram_of ws))) (sym e ∙ t)) (ap Ok o)
 
-  pub bound-many : few ≡ false → {r : Valued} → r ≡ tables_answer ar ws n constants facts os → r ≡ bound_answer ar ws n constants facts os
+  pub bound-many : few ≡ false → {r : Result ℕ Refusal} → r ≡ tables_answer ar ws n constants facts os → r ≡ bound_answer ar ws n constants facts os
   unfolding is_few bound_answer is_too_large tables_answer state_of
   bound-many t o = rw (not-false (ltb most_valuations (valuations ar n (diagram_of ws))) (sym e ∙ t)) o
 

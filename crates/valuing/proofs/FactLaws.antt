@@ -110,12 +110,12 @@ module _ (facts env : List ℕ) (l k from : ℕ) where
 
 -- both together: every row was asked
 module _ (facts index env : List ℕ) (l k : ℕ) {r : Bool} (s : Sought (says facts env l k) 0 (indexed_count facts index) r) where
-  pub found-indexed : r ≡ true → true ≡ some_below (fact_count facts) (says facts env l k)
+  pub found-indexed : r ≡ true → r ≡ some_below (fact_count facts) (says facts env l k)
   unfolding indexed_count
   found-indexed e =
       let f = s.yes e in
       let h = f.1 in
-      sym (some-made (fact_count facts) (says facts env l k) f.0 (omega arith) f.2)
+      e ∙ sym (some-made (fact_count facts) (says facts env l k) f.0 (omega arith) f.2)
 
   pub found-scanned : {q : Bool} → r ≡ false → Sought (says facts env l k) (length index - buckets) (fact_count facts) q
       → q ≡ some_below (fact_count facts) (says facts env l k)

@@ -44,17 +44,13 @@ module _ (g : ℕ → ℕ) (ws high : List ℕ) (i : ℕ) where
   top-leaf e q = q ∙ rw (eq-eqb _ leaf_mark e)
 
   module _ (n : get_or ws (i * 3) 0 ≡ leaf_mark → ⊥) where
-    pub top-low : get_or high (get_or ws (i * 3 + 1) 0) 0 < get_or high (get_or ws (i * 3 + 2) 0) 0 → get_or high (get_or ws (i * 3 + 2) 0) 0 ≡ top_by g ws high i
+    pub top-higher : {x : ℕ} → x ≡ max (get_or high (get_or ws (i * 3 + 1) 0) 0) (get_or high (get_or ws (i * 3 + 2) 0) 0) → x ≡ top_by g ws high i
     unfolding top_by label_at high_at low_at
-    top-low l = rw (ne_eqb _ leaf_mark n) (omega arith)
+    top-higher e = e ∙ rw (ne_eqb _ leaf_mark n)
 
     pub top-branch : (f : ℕ → ℕ) {x : ℕ} → x ≡ top_by f ws high i → x ≡ top_by g ws high i
     unfolding top_by label_at
     top-branch f q = q ∙ rw (ne_eqb _ leaf_mark n)
-
-    pub top-high : get_or high (get_or ws (i * 3 + 2) 0) 0 ≤ get_or high (get_or ws (i * 3 + 1) 0) 0 → get_or high (get_or ws (i * 3 + 1) 0) 0 ≡ top_by g ws high i
-    unfolding top_by label_at high_at low_at
-    top-high l = rw (ne_eqb _ leaf_mark n) (omega arith)
 
 -- a branch's children have numbers
 module _ {ws high : List ℕ} (t : Topping ws high) {i : ℕ} (h : i < row_count ws) (n : get_or ws (i * 3) 0 ≡ leaf_mark → ⊥) where

@@ -24,7 +24,6 @@ use Rattle.diagram.specs.RowDiagrams.{branch_row}
 use Rattle.diagram.specs.DiagramOfListing.{valid-rows}
 use Rattle.diagram.specs.ListingValid.{listing-is-valid}
 use Rattle.diagram.specs.Listings.{is-listing-good}
-use Rattle.state.specs.declared.Valued.TheVariants.{Value, Refused}
 use Rattle.state.specs.State.{State, Good, meaning}
 use Rattle.state.proofs.ValueLaws.{by-low}
 use Rattle.state.specs.Highest.{start, Bound}
@@ -45,13 +44,12 @@ use Rattle.eliminate.specs.Calls.{PlainLabel, set_at, start_at, Stored}
 use Rattle.eliminate.specs.Above.{Above}
 use Rattle.eliminate.specs.Stores.{Holds}
 use Rattle.eliminate.specs.Rows.{Ready, Tabled, Finished}
-use Rattle.eliminate.specs.declared.Reached.{Reached}
-use Rattle.eliminate.specs.declared.Reached.TheVariants.{At, Over}
 use Rattle.valuing.specs.Search.{Placing}
 use Rattle.valuing.specs.Tables.{tables_answer}
 use Rattle.valuing.proofs.FactLaws.{read_past}
 use Rattle.valuing.proofs.SearchLaws.{place-term}
 use Rattle.valuing.proofs.StartLaws.{Lendable, state-lendable, lent_bound, lent-fixed, fixed-below}
+use Rattle.std.specs.Prelude.{Err, None, Ok, Option, Some}
 
 pub few-rows : (ar ws : List ℕ) → is_listing ar ws ≡ true → row_count ws ≤ most_rows
 few-rows ar ws e = (listing-is-valid ar ws e).few
@@ -95,7 +93,7 @@ no-objects t = by-low (get_or zeros t 0 ≡ 0) term_end t
 
 -- with a minimum variable they are not used
 pub tables-minimum : (ar ws : List ℕ) (n : ℕ) (constants facts os : List ℕ) {plain : Bool} → plain ≡ is_plain ar (diagram_of ws) → not plain ≡ true
-    → Refused Valuations ≡ tables_answer ar ws n constants facts os
+    → Err Valuations ≡ tables_answer ar ws n constants facts os
 unfolding tables_answer
 tables-minimum ar ws n constants facts os {plain} e f = rw (sym e ∙ not-true plain f)
 
@@ -152,12 +150,12 @@ module _ (ar ws : List ℕ) (n : ℕ) (constants facts os : List ℕ) (listed : 
       count = refl;
     }
 
-    module _ {above heads space : List ℕ} {r : Reached} {heads' space' env' : List ℕ} (f : Finished ar facts ws above heads space env n r heads' space' env') where
-      pub tables-over : r ≡ Over → Refused Valuations ≡ tables_answer ar ws n constants facts os
+    module _ {above heads space : List ℕ} {r : Option (ℕ × ℕ)} {heads' space' env' : List ℕ} (f : Finished ar facts ws above heads space env n r heads' space' env') where
+      pub tables-over : r ≡ None → Err Valuations ≡ tables_answer ar ws n constants facts os
       unfolding tables_answer
       tables-over e = rw (lt-ltb most_entries (all_entries s os ar ws) (f.over e s os (tables-begun heads space)), or-true (not (is_plain ar (diagram_of ws))))
 
-      module _ {next used : ℕ} (e : r ≡ At next used) where
+      module _ {next used : ℕ} (e : r ≡ Some (next, used)) where
         ready : Ready ar ws above heads' space' env' n (row_count ws) next used
         ready = f.ready next used e
 
@@ -196,7 +194,7 @@ module _ (ar ws : List ℕ) (n : ℕ) (constants facts os : List ℕ) (listed : 
         unfolding all_entries
         few-entries = subst (λ (x : ℕ). x ≤ most_entries) tabled.count ready.used-few
 
-        pub tables-value : {a : ℕ} → a ≡ get_or heads' (root * 2 + 1) 0 → Value (get_or space' a 0) ≡ tables_answer ar ws n constants facts os
+        pub tables-value : {a : ℕ} → a ≡ get_or heads' (root * 2 + 1) 0 → Ok (get_or space' a 0) ≡ tables_answer ar ws n constants facts os
         unfolding tables_answer start_at place_of
         tables-value {a} q =
             let few : all_entries s os ar ws ≤ most_entries = few-entries in
@@ -204,7 +202,7 @@ module _ (ar ws : List ℕ) (n : ℕ) (constants facts os : List ℕ) (listed : 
             let place : start_at heads' root + place_of s.size (root_table s ar ws).names (start s os) ≡ a =
             ap (λ (xs : List ℕ). start_at heads' root + place_of s.size xs (start s os)) (root_names s os good bound ar ws listed) ∙ here ∙ sym q in
             rw (plain-so, le-ltb most_entries (all_entries s os ar ws) few)
-            (ap Value (ap (λ (x : ℕ). get_or space' x 0) (sym place) ∙ entry ∙ root-value s os good bound ar ws listed
+            (ap Ok (ap (λ (x : ℕ). get_or space' x 0) (sym place) ∙ entry ∙ root-value s os good bound ar ws listed
             ∙ sym (number-plain s os (meaning ar (diagram_of ws)) (fine-plain ar (diagram_of ws) (is-listing-good ar ws listed).fine plain-so))))
           where
             here : start_at heads' root + 0 ≡ get_or heads' (root * 2 + 1) 0

@@ -5,13 +5,13 @@ use Rattle.basics.specs.Tests.{and_left, and_right}
 use Rattle.diagram.specs.Sizes.{most_rows}
 use Rattle.diagram.specs.Words.{row_count, is_listing}
 use Rattle.diagram.specs.ListingValid.{listing-is-valid}
-use Rattle.state.specs.declared.Valued.TheVariants.{Value}
 use Rattle.state.specs.State.{State, Good}
 use Rattle.state.specs.Highest.{Bound}
 use Rattle.state.specs.Lent.{all_below, is_state}
 use Rattle.fact_index.specs.Inner.{indexed_count, Indexed}
 use Rattle.valuing.specs.Search.{Topping, Tops}
 use Rattle.valuing.specs.Walks.{climbed, Prepared}
+use Rattle.std.specs.Prelude.{Ok}
 
 -- ===== The rows' highest leaves =====
 pub topping-room : (ar ws high : List ℕ) → is_listing ar ws ≡ true → most_rows ≤ length high → Topping ws high
@@ -34,6 +34,6 @@ bound-below {s} good os e = record { each = go os e }
     go (o ∷ os) e (suc i) = go os (and_right (ltb o s.size) _ e) i
 
 -- ===== The best so far =====
-pub climbed-first : (v : ℕ) → climbed 0 (Value v) ≡ Value (suc v)
+pub climbed-first : (v : ℕ) → climbed 0 (Ok v) ≡ Ok (suc v)
 unfolding climbed
-climbed-first v = ap Value (omega arith)
+climbed-first v = ap Ok (omega arith)

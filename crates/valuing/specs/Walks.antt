@@ -4,8 +4,6 @@ use Rattle.refusal.specs.declared.Refusal.TheVariants.{Valuations}
 use Rattle.diagram.specs.Words.{row_count, is_listing}
 use Rattle.diagram.specs.Listing.{diagram_of}
 use Rattle.diagram.specs.Variables.{is_plain}
-use Rattle.state.specs.declared.Valued.{Valued}
-use Rattle.state.specs.declared.Valued.TheVariants.{Value, Refused}
 use Rattle.state.specs.State.{meaning}
 use Rattle.state.specs.Lent.{state_of, is_state}
 use Rattle.state.specs.ValueCall.{most_valuations, valuations}
@@ -13,6 +11,8 @@ use Rattle.minimum.specs.Number.{number}
 use Rattle.elimination.specs.Answer.{is_too_large}
 use Rattle.fact_index.specs.Inner.{indexed_count, Indexed}
 use Rattle.valuing.specs.Search.{Tops}
+use Rattle.refusal.specs.declared.Refusal.{Refusal}
+use Rattle.std.specs.Prelude.{Err, Ok, Result}
 
 -- ===== What is answered =====
 
@@ -21,15 +21,15 @@ abbrev pub bound_number : List ℕ → List ℕ → ℕ → List ℕ → List �
 bound_number ar ws n constants facts os = number (state_of ar n constants facts) os (meaning ar (diagram_of ws))
 
 -- 15 where no way of working may be taken, else the number: "with 15 judged for each binding" (L9), "for each state" (L11)
-unfoldable pub bound_answer : List ℕ → List ℕ → ℕ → List ℕ → List ℕ → List ℕ → Valued
+unfoldable pub bound_answer : List ℕ → List ℕ → ℕ → List ℕ → List ℕ → List ℕ → Result ℕ Refusal
 unfolding is_too_large state_of
 bound_answer ar ws n constants facts os =
-    cond (is_too_large ar (state_of ar n constants facts) os ws) (Refused Valuations) (Value (bound_number ar ws n constants facts os))
+    cond (is_too_large ar (state_of ar n constants facts) os ws) (Err Valuations) (Ok (bound_number ar ws n constants facts os))
 
 -- the best so far after one answer more: one more than the best number, 0 for none
-unfoldable pub climbed : ℕ → Valued → Valued
-climbed best (Value v) = Value (max best (suc v))
-climbed best (Refused r) = Refused r
+unfoldable pub climbed : ℕ → Result ℕ Refusal → Result ℕ Refusal
+climbed best (Ok v) = Ok (max best (suc v))
+climbed best (Err r) = Err r
 
 -- ===== What is asked =====
 

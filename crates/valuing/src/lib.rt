@@ -11,6 +11,7 @@ ghost use Rattle.listing.specs.Used.{Used, set_from, marked_variables, marked_mi
 ghost use Rattle.state.specs.Lent.{fact_words, fact_count, some_below, all_below, names_below, constants_below, is_state};
 ghost use Rattle.state.specs.ValueCall.{most_valuations};
 ghost use Rattle.elimination.specs.Answer.{value_answer};
+ghost use Rattle.fact_index.specs.Index.{buckets};
 ghost use Rattle.fact_index.specs.Inner.{indexed_count, Indexed, Clean, Sought};
 ghost use Rattle.valuing.specs.Asking.{says, Placed, Asked};
 ghost use Rattle.valuing.specs.Tables.{tables_answer, Liftable};
@@ -18,10 +19,9 @@ ghost use Rattle.valuing.specs.Walks.{bound_number, bound_answer, climbed, is_fe
 ghost use Rattle.valuing.specs.Search.{free, Topping, TopsBy, Tops, top_by, fixed_in, Placing, lent_holds, given, Labelled, LooksUp, Telling, Best, Ready};
 ghost use Rattle.valuing.specs.Rising.{turned, Risen, Settled, Topmost, Chosen, Rising, Next};
 
-use eliminate::Reached;
 use label::{Label, Term};
 use refusal::Refusal;
-use state::{FACT_WORDS, VALUATIONS, Valued};
+use state::{FACT_WORDS, VALUATIONS};
 
 // What a label's places say: a term that has no object yet, or the bucket of the fact that it asks for.
 #[derive(Clone, Copy)]
@@ -36,6 +36,10 @@ const FREE: u64 = 18446744073709551615;
 const FEW_FACTS: usize = 1024;
 
 const MANY_FACTS: usize = 4096;
+// Words of an index that holds them.
+const FEW_WORDS: usize = fact_index::BUCKETS + FEW_FACTS;
+
+const MANY_WORDS: usize = fact_index::BUCKETS + MANY_FACTS;
 
 // Whether row i says what the label with k places asks for.
 fn row_says(facts: &[u64], i: usize, env: &[u64], l: Label, k: u64) -> bool
@@ -46,13 +50,11 @@ fn row_says(facts: &[u64], i: usize, env: &[u64], l: Label, k: u64) -> bool
     if facts[i * FACT_WORDS] != l.predicate() {
         return false;
     }
-    let mut j = 0;
-    while j < k {
+    for j in 0..k {
         let t = l.place(j) as usize;
         if facts[i * FACT_WORDS + 1 + (j as usize)] != env[t] {
             return false;
         }
-        j += 1;
     }
     true
 }
@@ -79,12 +81,10 @@ fn scanned(facts: &[u64], env: &[u64], l: Label, k: u64, from: usize) -> bool
     ensures { Sought (says facts.now env.now l.packed k) from (fact_count facts.now) result }
 {
     let rows = facts.len() / FACT_WORDS;
-    let mut i = from;
-    while i < rows {
+    for i in from..rows {
         if row_says(facts, i, env, l, k) {
             return true;
         }
-        i += 1;
     }
     false
 }
@@ -94,10 +94,8 @@ fn found(facts: &[u64], index: &[u64], env: &[u64], l: Label, k: u64, bucket: us
     requires { Asked facts.now index.now env.now l.packed k bucket }
     ensures { result ≡ some_below (fact_count facts.now) (says facts.now env.now l.packed k) }
 {
-    if indexed(facts, index, env, l, k, bucket) {
-        return true;
-    }
-    scanned(facts, env, l, k, index.len() - fact_index::BUCKETS)
+    indexed(facts, index, env, l, k, bucket)
+        || scanned(facts, env, l, k, index.len() - fact_index::BUCKETS)
 }
 
 // Looks up the objects of the label's places, one after the other.
@@ -109,15 +107,13 @@ fn look_up(arities: &[u64], env: &[u64], l: Label) -> Lookup
     let q = p as usize;
     let k = arities[q];
     let mut h = fact_index::hash_start(p);
-    let mut j = 0;
-    while j < k {
+    for j in 0..k {
         let t = l.place(j) as usize;
         let o = env[t];
         if o == FREE {
             return Lookup::Free(t);
         }
         h = fact_index::hash_step(h, o);
-        j += 1;
     }
     Lookup::Bucket(fact_index::bucket(h))
 }
@@ -212,15 +208,13 @@ fn bind(
     ensures { Best arities.now facts.now words.now high.now env.old n r best result env.new }
 {
     let mut b = best;
-    let mut v = 0;
-    while v < n {
+    for v in 0..n {
         if high[r] < b {
             env[t] = FREE;
             return b;
         }
         env[t] = v;
         b = go(words, high, arities, facts, index, env, n, r, b);
-        v += 1;
     }
     env[t] = FREE;
     b
@@ -237,12 +231,7 @@ fn top(words: &[u64], high: &[u64], i: usize) -> u64
     }
     let t = words[i * 3 + 1] as usize;
     let f = words[i * 3 + 2] as usize;
-    let x = high[t];
-    let y = high[f];
-    if x < y {
-        return y;
-    }
-    x
+    high[t].max(high[f])
 }
 
 // Each row's highest leaf.
@@ -251,11 +240,9 @@ pub fn tops(words: &[u64], high: &mut [u64])
     ensures { Tops words.now high.new (row_count words.now) }
 {
     let rows = words.len() / 3;
-    let mut i = 0;
-    while i < rows {
+    for i in 0..rows {
         let x = top(words, high, i);
         high[i] = x;
-        i += 1;
     }
 }
 
@@ -288,11 +275,9 @@ fn turn(words: &[u64], best: u64, low: &mut [u64])
     ensures { TopsBy (turned best) words.now low.new (row_count words.now) }
 {
     let rows = words.len() / 3;
-    let mut i = 0;
-    while i < rows {
+    for i in 0..rows {
         let x = low_top(words, low, best, i);
         low[i] = x;
-        i += 1;
     }
 }
 
@@ -326,14 +311,12 @@ fn next_marked(marks: &[u64], t: usize) -> usize
     requires t_le_first_minimum { t ≤ first_minimum }
     ensures { Next marks.now t result }
 {
-    let mut r = t;
-    while r < (Term::FIRST_MINIMUM as usize) {
+    for r in t..Term::FIRST_MINIMUM as usize {
         if marks[r] != 0 {
             return r;
         }
-        r += 1;
     }
-    r
+    Term::FIRST_MINIMUM as usize
 }
 
 // Gives the maximum variables from t on that are marked each choice of objects, and finds the lowest leaf beneath each, until the best reaches what no leaf passes:
@@ -361,8 +344,7 @@ fn rise(
     }
     let next = next_marked(marks, t + 1);
     let mut b = best;
-    let mut v = 0;
-    while v < n {
+    for v in 0..n {
         if most <= b {
             env[t] = FREE;
             return b;
@@ -371,7 +353,6 @@ fn rise(
         b = rise(
             words, low, arities, facts, index, marks, env, n, next, most, b,
         );
-        v += 1;
     }
     env[t] = FREE;
     b
@@ -431,11 +412,9 @@ fn start(constants: &[u64], objects: &[u64], env: &mut [u64])
     requires { length env.old ≡ term_end }
     ensures { Placing constants.now objects.now env.old env.new first_variable }
 {
-    let mut t = 0;
-    while t < (Term::FIRST_VARIABLE as usize) {
+    for t in 0..Term::FIRST_VARIABLE as usize {
         let o = fixed(constants, objects, t);
         env[t] = o;
-        t += 1;
     }
 }
 
@@ -524,8 +503,8 @@ fn number_in(
     number_of(arities, words, n, constants, facts, index, &mut high, plain)
 }
 
-// The same, with an index of few facts made for it.
-fn number_few(
+// The same, with an index of that many words made for it.
+fn number_with<const WORDS: usize>(
     arities: &[u64],
     words: &[u64],
     n: u64,
@@ -533,26 +512,12 @@ fn number_few(
     facts: &[u64],
     plain: bool,
 ) -> u64
-    requires { InState arities.now words.now n constants.now facts.now plain }
+    requires in_state { InState arities.now words.now n constants.now facts.now plain }
+    requires buckets_le_words { buckets ≤ WORDS }
+    requires words_fit { WORDS < 2 ^ 60 }
     ensures { result ≡ bound_number arities.now words.now n constants.now facts.now [] }
 {
-    let mut index = [0u64; fact_index::BUCKETS + FEW_FACTS];
-    number_in(arities, words, n, constants, facts, &mut index, plain)
-}
-
-// The same, with an index of many.
-fn number_many(
-    arities: &[u64],
-    words: &[u64],
-    n: u64,
-    constants: &[u64],
-    facts: &[u64],
-    plain: bool,
-) -> u64
-    requires { InState arities.now words.now n constants.now facts.now plain }
-    ensures { result ≡ bound_number arities.now words.now n constants.now facts.now [] }
-{
-    let mut index = [0u64; fact_index::BUCKETS + MANY_FACTS];
+    let mut index = [0u64; WORDS];
     number_in(arities, words, n, constants, facts, &mut index, plain)
 }
 
@@ -561,12 +526,10 @@ fn has_parameter(marks: &[u64]) -> bool
     requires { length marks.now ≡ term_end }
     ensures { result ≡ not (eqb (set_from marks.now first_parameter parameter_count) 0) }
 {
-    let mut k = 0;
-    while k < (Term::PARAMETERS as usize) {
+    for k in 0..Term::PARAMETERS as usize {
         if marks[(Term::FIRST_PARAMETER as usize) + k] != 0 {
             return true;
         }
-        k += 1;
     }
     false
 }
@@ -583,13 +546,11 @@ fn few(n: u64, v: u64) -> bool
         return false;
     }
     let mut p = 1;
-    let mut i = 0;
-    while i < v {
+    for i in 0..v {
         p = p * n;
         if p > VALUATIONS {
             return false;
         }
-        i += 1;
     }
     true
 }
@@ -612,12 +573,10 @@ fn row_fits(arities: &[u64], n: u64, facts: &[u64], i: usize) -> bool
     ensures { result ≡ names_below arities.now n facts.now i }
 {
     let k = fact_index::place_count(arities, facts[i * FACT_WORDS]);
-    let mut j = 0;
-    while j < k {
+    for j in 0..k {
         if facts[i * FACT_WORDS + 1 + j] >= n {
             return false;
         }
-        j += 1;
     }
     true
 }
@@ -627,12 +586,10 @@ fn facts_fit(arities: &[u64], n: u64, facts: &[u64]) -> bool
     ensures { result ≡ every_below (fact_count facts.now) (names_below arities.now n facts.now) }
 {
     let rows = facts.len() / FACT_WORDS;
-    let mut i = 0;
-    while i < rows {
+    for i in 0..rows {
         if !row_fits(arities, n, facts, i) {
             return false;
         }
-        i += 1;
     }
     true
 }
@@ -641,12 +598,10 @@ fn facts_fit(arities: &[u64], n: u64, facts: &[u64]) -> bool
 fn constants_fit(n: u64, constants: &[u64]) -> bool
     ensures { result ≡ constants_below n constants.now }
 {
-    let mut c = 0;
-    while c < (Term::CONSTANTS as usize) {
+    for c in 0..Term::CONSTANTS as usize {
         if constant(constants, c) >= n {
             return false;
         }
-        c += 1;
     }
     true
 }
@@ -658,10 +613,7 @@ pub fn state_fits(arities: &[u64], n: u64, constants: &[u64], facts: &[u64]) -> 
     if n == 0 {
         return false;
     }
-    if !constants_fit(n, constants) {
-        return false;
-    }
-    facts_fit(arities, n, facts)
+    constants_fit(n, constants) && facts_fit(arities, n, facts)
 }
 
 // The second way of working: by tables, unless there is a minimum variable or these have too many entries.
@@ -673,7 +625,7 @@ fn by_tables(
     facts: &[u64],
     objects: &[u64],
     plain: bool,
-) -> Valued
+) -> Result<u64, Refusal>
     requires words_value { is_listing arities.now words.now ≡ true }
     requires facts_value { is_state arities.now n constants.now facts.now ≡ true }
     requires objects_value { all_below n objects.now ≡ true }
@@ -681,7 +633,7 @@ fn by_tables(
     ensures { result ≡ tables_answer arities.now words.now n constants.now facts.now objects.now }
 {
     if !plain {
-        return Valued::Refused(Refusal::Valuations);
+        return Err(Refusal::Valuations);
     }
     let mut above = [0u64; diagram::ROWS];
     eliminate::find_above(arities, words, &mut above);
@@ -689,28 +641,25 @@ fn by_tables(
     start(constants, objects, &mut env);
     let mut heads = [0u64; diagram::ROWS * 2];
     let mut space = [0u64; eliminate::ENTRIES as usize];
-    let Reached::At(next, used) = eliminate::work(
+    let (next, used) = eliminate::work(
         arities, facts, words, &above, &mut heads, &mut space, &mut env, n,
-    ) else {
-        return Valued::Refused(Refusal::Valuations);
-    };
+    )
+    .ok_or(Refusal::Valuations)?;
     let root = words.len() / 3 - 1;
     let at = heads[root * 2 + 1] as usize;
-    Valued::Value(space[at])
+    Ok(space[at])
 }
 
 // The best so far after the answer r.
-fn lifted(r: Valued, best: u64) -> Valued
+fn lifted(r: Result<u64, Refusal>, best: u64) -> Result<u64, Refusal>
     requires { Liftable r }
     ensures { result ≡ climbed best r }
 {
-    let Valued::Value(v) = r else {
-        return r;
-    };
+    let v = r?;
     if v < best {
-        return Valued::Value(best);
+        return Ok(best);
     }
-    Valued::Value(v + 1)
+    Ok(v + 1)
 }
 
 // One value more, with objects for the parameters, on rows and facts prepared once: the higher of best and one more than the number. best is one more than the best
@@ -727,7 +676,7 @@ pub fn climb(
     few: bool,
     plain: bool,
     best: u64,
-) -> Valued
+) -> Result<u64, Refusal>
     requires prepared { Prepared arities.now words.now high.now n constants.now facts.now index.now }
     requires objects_value { all_below n objects.now ≡ true }
     requires few_value { few ≡ is_few arities.now n words.now }
@@ -735,7 +684,7 @@ pub fn climb(
     ensures { result ≡ climbed best (bound_answer arities.now words.now n constants.now facts.now objects.now) }
 {
     if few {
-        return Valued::Value(climb_rows(
+        return Ok(climb_rows(
             arities, words, high, n, constants, facts, index, objects, plain, best,
         ));
     }
@@ -775,7 +724,7 @@ fn value_by(
     facts: &[u64],
     few: bool,
     plain: bool,
-) -> Valued
+) -> Result<u64, Refusal>
     requires in_state { InState arities.now words.now n constants.now facts.now plain }
     requires few_value { few ≡ is_few arities.now n words.now }
     ensures { result ≡ bound_answer arities.now words.now n constants.now facts.now [] }
@@ -784,9 +733,9 @@ fn value_by(
         return by_tables(arities, words, n, constants, facts, &constants[..0], plain);
     }
     if facts.len() > FEW_FACTS * FACT_WORDS {
-        return Valued::Value(number_many(arities, words, n, constants, facts, plain));
+        return Ok(number_with::<MANY_WORDS>(arities, words, n, constants, facts, plain));
     }
-    Valued::Value(number_few(arities, words, n, constants, facts, plain))
+    Ok(number_with::<FEW_WORDS>(arities, words, n, constants, facts, plain))
 }
 
 // The value of a listing in a state, both known to be such.
@@ -796,7 +745,7 @@ pub fn value_listed(
     n: u64,
     constants: &[u64],
     facts: &[u64],
-) -> Valued
+) -> Result<u64, Refusal>
     requires words_value { is_listing arities.now words.now ≡ true }
     requires facts_value { is_state arities.now n constants.now facts.now ≡ true }
     ensures { result ≡ bound_answer arities.now words.now n constants.now facts.now [] }
@@ -817,7 +766,7 @@ pub fn value_indexed(
     facts: &[u64],
     index: &[u64],
     high: &mut [u64],
-) -> Valued
+) -> Result<u64, Refusal>
     requires words_value { is_listing arities.now words.now ≡ true }
     requires facts_value { is_state arities.now n constants.now facts.now ≡ true }
     requires indexed { Indexed arities.now facts.now index.now (indexed_count facts.now index.now) }
@@ -828,25 +777,31 @@ pub fn value_indexed(
     listing::used(arities, words, &mut marks);
     let plain = listing::is_plain(&marks);
     if is_small(n, &marks) {
-        return Valued::Value(number_of(arities, words, n, constants, facts, index, high, plain));
+        return Ok(number_of(arities, words, n, constants, facts, index, high, plain));
     }
     by_tables(arities, words, n, constants, facts, &constants[..0], plain)
 }
 
 // The value of a listing in a state that are lent with an arity list: its number.
-pub fn value(arities: &[u64], words: &[u64], n: u64, constants: &[u64], facts: &[u64]) -> Valued
+pub fn value(
+    arities: &[u64],
+    words: &[u64],
+    n: u64,
+    constants: &[u64],
+    facts: &[u64],
+) -> Result<u64, Refusal>
     ensures { result ≡ value_answer arities.now words.now n constants.now facts.now }
 {
     if !listing::check(arities, words) {
-        return Valued::Refused(Refusal::Listing);
+        return Err(Refusal::Listing);
     }
     if !state_fits(arities, n, constants, facts) {
-        return Valued::Refused(Refusal::Range);
+        return Err(Refusal::Range);
     }
     let mut marks = [0u64; Term::END as usize];
     listing::used(arities, words, &mut marks);
     if has_parameter(&marks) {
-        return Valued::Refused(Refusal::Unbound);
+        return Err(Refusal::Unbound);
     }
     let small = is_small(n, &marks);
     let plain = listing::is_plain(&marks);

@@ -23,15 +23,12 @@ use Rattle.mdp.specs.Model.{Action}
 use Rattle.model.specs.declared.Head.{Head}
 use Rattle.names.specs.Many.{many}
 use Rattle.model.specs.Layout.{action_at, model_of}
-use Rattle.steps.specs.declared.Step.{Step}
-use Rattle.steps.specs.declared.Step.TheVariants.{Rows, Refused as Stopped}
 use Rattle.steps.specs.Steps.{Given}
 use Rattle.steps.specs.GivenLaws.{then-then, then_same, step-refused, result-long, result-few}
 use Rattle.steps.specs.FoldLaws.{many_more, refused-stays}
 use Rattle.session.specs.ModelLines.{weights_sum, weighed}
-use Rattle.weights.specs.declared.Weighed.{Weighed}
-use Rattle.weights.specs.declared.Weighed.TheVariants.{Done, Refused}
 use Rattle.weights.specs.Weighing.{weighed_as, judged_as, ActionTask, Weighable}
+use Rattle.std.specs.Prelude.{Err, Ok, Result}
 
 -- ===== One action more, at the end =====
 
@@ -77,11 +74,11 @@ module _ {ar listings table : List ℕ} {a : ℕ} {work : List ℕ} (t : ActionT
     action-is : A ≡ and_then Q (judged ar total (ok tt))
     action-is = weighed-next ar total (action_at listings table a) [] ∙ ap (λ (o : Outcome (Unit {0})). and_then Q (judged ar total o)) (weighed-none ar total)
 
-    module _ {r : Step} {sum : List ℕ} (x : Given ar Q r sum) where
-      pub action-stops : {e : Refusal} → r ≡ Stopped e → Refused e ≡ weighed_as A
+    module _ {r : Result ℕ Refusal} {sum : List ℕ} (x : Given ar Q r sum) where
+      pub action-stops : {e : Refusal} → r ≡ Err e → Err e ≡ weighed_as A
       action-stops {e} h = sym (ap weighed_as (action-is ∙ ap (λ (o : Outcome Diagram). and_then o (judged ar total (ok tt))) (step-refused Q e (sym x.answer ∙ h))))
 
-      module _ {n : ℕ} (h : r ≡ Rows n) where
+      module _ {n : ℕ} (h : r ≡ Ok n) where
         pub action-listed : is_listing ar (take (n * 3) sum) ≡ true
         action-listed = (x.result n h).listing
 
@@ -94,7 +91,7 @@ module _ {ar listings table : List ℕ} {a : ℕ} {work : List ℕ} (t : ActionT
         pub action-few : n * 3 ≤ result_words
         action-few = result-few (x.result n h)
 
-        pub action-judged : {q : Led} {b : Weighed} → q ≡ lead_answer ar total (diagram_of (take (n * 3) sum)) → b ≡ judged_as q → b ≡ weighed_as A
+        pub action-judged : {q : Led} {b : Result (Unit {0}) Refusal} → q ≡ lead_answer ar total (diagram_of (take (n * 3) sum)) → b ≡ judged_as q → b ≡ weighed_as A
         action-judged {q} {b} e d =
             d ∙ ap judged_as e ∙ led-judged (diagram_of (take (n * 3) sum))
             ∙ sym (ap weighed_as (action-is ∙ ap (λ (o : Outcome Diagram). and_then o (judged ar total (ok tt))) (x.result n h).is))
@@ -107,11 +104,11 @@ module _ {ar listings table : List ℕ} {a : ℕ} {work : List ℕ} (t : ActionT
             led-judged : (d : Diagram) → judged_as (lead_answer ar total d) ≡ weighed_as (judged ar total (ok tt) d)
             led-judged d = unfold lead_answer in (led-as (ltb most_paths (length (paths d))) (leads_to ar total d))
 
-weighed-refused : (o : Outcome (Unit {0})) (e : Refusal) → weighed_as o ≡ Refused e → o ≡ refused e
+weighed-refused : (o : Outcome (Unit {0})) (e : Refusal) → weighed_as o ≡ Err e → o ≡ refused e
 weighed-refused (ok u) e h = let z : ◌≡◌ {A = ℕ} 0 1 = cc in absurd (omega arith)
 weighed-refused (refused r) e h = ap refused (cc)
 
-weighed-done : (o : Outcome (Unit {0})) → weighed_as o ≡ Done → o ≡ ok tt
+weighed-done : (o : Outcome (Unit {0})) → weighed_as o ≡ (Ok tt) → o ≡ ok tt
 weighed-done (ok u) h = refl
 weighed-done (refused r) h = let z : ◌≡◌ {A = ℕ} 0 1 = cc in absurd (omega arith)
 
@@ -150,22 +147,22 @@ module _ {ar listings table : List ℕ} {h : Head} {work₀ : List ℕ} (t : Wei
     step_is = ap G (many_more (action_at listings table) a) ∙ weighed-more ar h.total (many (action_at listings table) a) (F a)
         ∙ ap (λ (o : Outcome (Unit {0})). and_then o (λ u. G (F a ∷ []))) x.passed
 
-    module _ {r : Weighed} (e : r ≡ weighed_as (weighed ar h.total (action_at listings table a ∷ []))) where
-      pub weighing-stops : {z : Refusal} → r ≡ Refused z → r ≡ weighed_as (weighed ar h.total (model_of ar listings table h).actions)
+    module _ {r : Result (Unit {0}) Refusal} (e : r ≡ weighed_as (weighed ar h.total (action_at listings table a ∷ []))) where
+      pub weighing-stops : {z : Refusal} → r ≡ Err z → r ≡ weighed_as (weighed ar h.total (model_of ar listings table h).actions)
       weighing-stops {z} k =
           let q : G (F a ∷ []) ≡ refused z = weighed-refused (G (F a ∷ [])) z (sym e ∙ k) in
           let s : G (many (action_at listings table) h.actions) ≡ refused z =
           refused-stays G (λ u b. G (b ∷ [])) (action_at listings table) (weighed-more ar h.total) (suc a) h.actions z (step_is ∙ q) l in
           k ∙ sym (ap weighed_as (ap G actions-are ∙ s))
 
-      pub weighing-on : r ≡ Done → Weighing ar listings table h.actions h.total (a + 1)
+      pub weighing-on : r ≡ (Ok tt) → Weighing ar listings table h.actions h.total (a + 1)
       weighing-on k = record {
         within = omega (arith, l);
         passed = ap (λ (n : ℕ). G (many (action_at listings table) n)) (add-one a) ∙ step_is ∙ weighed-done (G (F a ∷ [])) (sym e ∙ k);
       }
 
   pub weighing-end : {a : ℕ} → Weighing ar listings table h.actions h.total a → h.actions ≤ a
-      → Done ≡ weighed_as (weighed ar h.total (model_of ar listings table h).actions)
+      → (Ok tt) ≡ weighed_as (weighed ar h.total (model_of ar listings table h).actions)
   weighing-end {a} x k =
       let y = x.within in
       let e : h.actions ≡ a = omega arith in

@@ -15,13 +15,12 @@ use Rattle.mdp.specs.Model.{Variant}
 use Rattle.mdp.specs.Backup.{combined}
 use Rattle.names.specs.Many.{many}
 use Rattle.model.specs.Layout.{variant_place, weight_words, variant_at, variants_of, action_at}
-use Rattle.steps.specs.declared.Step.{Step}
-use Rattle.steps.specs.declared.Step.TheVariants.{Rows, Refused}
 use Rattle.steps.specs.Steps.{Given, Begun, Folding}
 use Rattle.steps.specs.GivenLaws.{then-then, then_same, given-same}
 use Rattle.steps.specs.FoldLaws.{Folded, folded_start, folded-begins, folded-stops, folded_on, folded-end}
 use Rattle.session.specs.ModelLines.{weights_sum}
 use Rattle.weights.specs.Weighing.{AddTask, SumTask}
+use Rattle.std.specs.Prelude.{Err, Ok, Result}
 
 -- ===== A weight added =====
 
@@ -35,7 +34,7 @@ module _ {ar listings table : List ℕ} {place : ℕ} {sum : List ℕ} {n : ℕ}
     work-room = t.work-room;
   }
 
-  pub add-given : {ws : List ℕ} → ws ≡ weight_words listings table place → {r : Step} {sum' : List ℕ}
+  pub add-given : {ws : List ℕ} → ws ≡ weight_words listings table place → {r : Result ℕ Refusal} {sum' : List ℕ}
       → Given ar (combined Sum Shared ar (diagram_of (take (n * 3) sum)) (diagram_of ws)) r sum'
       → Given ar (combined Sum Shared ar (diagram_of (take (n * 3) sum)) (variant_at listings table place).weight) r sum'
   unfolding variant_at
@@ -101,15 +100,15 @@ module _ {ar listings table : List ℕ} {a : ℕ} {out₀ work₀ : List ℕ} (t
       work-room = omega (arith, q, t.action.work-room);
     }
 
-    module _ {r : Step} {out' : List ℕ} (w : Given ar (combined Sum Shared ar (diagram_of (take (n * 3) out)) (variant_at listings table (variant_place a v)).weight) r out') where
-      pub summing-stops : {e : Refusal} → r ≡ Refused e → {out'' : List ℕ} → Given ar (weights_sum ar (leaf 0) (action_at listings table a).variants) r out''
+    module _ {r : Result ℕ Refusal} {out' : List ℕ} (w : Given ar (combined Sum Shared ar (diagram_of (take (n * 3) out)) (variant_at listings table (variant_place a v)).weight) r out') where
+      pub summing-stops : {e : Refusal} → r ≡ Err e → {out'' : List ℕ} → Given ar (weights_sum ar (leaf 0) (action_at listings table a).variants) r out''
       summing-stops h = given-same (ap S (sym variants-are)) (folded-stops S D F (sum_more ar (leaf 0)) x.folded w h (variants_of table a) l)
 
-      pub summing_on : {m : ℕ} → r ≡ Rows m → Summing ar listings table a out' m (v + 1)
+      pub summing_on : {m : ℕ} → r ≡ Ok m → Summing ar listings table a out' m (v + 1)
       summing_on h = record { within = omega (arith, l); folded = folded_on S D F (sum_more ar (leaf 0)) x.folded w h }
 
   pub summing-end : {out : List ℕ} {n v : ℕ} → Summing ar listings table a out n v → variants_of table a ≤ v
-      → Given ar (weights_sum ar (leaf 0) (action_at listings table a).variants) (Rows n) out
+      → Given ar (weights_sum ar (leaf 0) (action_at listings table a).variants) (Ok n) out
   summing-end {out} {n} {v} x h =
       let k = x.within in
       let e : variants_of table a ≡ v = omega arith in

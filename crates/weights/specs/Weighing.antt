@@ -12,18 +12,18 @@ use Rattle.model.specs.declared.Head.{Head}
 use Rattle.model.specs.Inner.{LaidVariant, LaidAction}
 use Rattle.model.specs.Layout.{variant_words, action_words, table_words}
 use Rattle.steps.specs.Steps.{BufferListing}
-use Rattle.weights.specs.declared.Weighed.{Weighed}
-use Rattle.weights.specs.declared.Weighed.TheVariants.{Done, Refused}
+use Rattle.refusal.specs.declared.Refusal.{Refusal}
+use Rattle.std.specs.Prelude.{Err, Ok, Result}
 
-abbrev pub weighed_as : Outcome (Unit {0}) → Weighed
-weighed_as (ok u) = Done
-weighed_as (refused r) = Refused r
+abbrev pub weighed_as : Outcome (Unit {0}) → Result (Unit {0}) Refusal
+weighed_as (ok u) = (Ok tt)
+weighed_as (refused r) = Err r
 
 -- what is said of a sum by where its paths lead
-abbrev pub judged_as : Led → Weighed
-judged_as Many = Refused Paths
-judged_as Others = Refused Weights
-judged_as Only = Done
+abbrev pub judged_as : Led → Result (Unit {0}) Refusal
+judged_as Many = Err Paths
+judged_as Others = Err Weights
+judged_as Only = (Ok tt)
 
 -- ===== What the functions require =====
 

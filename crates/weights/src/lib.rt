@@ -16,14 +16,6 @@ use apply::Operation;
 use contradict::Led;
 use model::Head;
 use refusal::Refusal;
-use steps::Step;
-
-// What the check of the weights answers: each action's sum leads to W only, or the first refusal met.
-#[derive(Clone, Copy)]
-pub enum Weighed {
-    Done,
-    Refused(Refusal),
-}
 
 // Adds the weight of the variant at a place of the table to the sum that the first n rows of the buffer are, names shared.
 fn add_weight(
@@ -34,7 +26,7 @@ fn add_weight(
     sum: &mut [u64],
     n: usize,
     work: &mut [u64],
-) -> Step
+) -> Result<usize, Refusal>
     requires { AddTask arities.now listings.now table.now place sum.old n work.old }
     ensures { Given arities.now (combined Sum Shared arities.now (diagram_of (take (n * 3) sum.old)) (variant_at listings.now table.now place).weight) result sum.new }
 {
@@ -51,33 +43,27 @@ fn weights_sum(
     action: usize,
     out: &mut [u64],
     work: &mut [u64],
-) -> Step
+) -> Result<usize, Refusal>
     requires { SumTask arities.now listings.now table.now action out.old work.old }
     ensures { Given arities.now (weights_sum arities.now (leaf 0) (action_at listings.now table.now action).variants) result out.new }
 {
     let variants = table[action * model::ACTION_WORDS + 1] as usize;
     let mut n = steps::begin(out);
-    let mut v = 0;
-    while v < variants {
+    for v in 0..variants {
         let place = action * model::ACTION_WORDS + 2 + v * model::VARIANT_WORDS;
-        let r = add_weight(arities, listings, table, place, out, n, work);
-        let Step::Rows(m) = r else {
-            return r;
-        };
-        n = m;
-        v += 1;
+        n = add_weight(arities, listings, table, place, out, n, work)?;
     }
-    Step::Rows(n)
+    Ok(n)
 }
 
 // What is said of a sum by where its paths lead: 17, 13, or nothing.
-fn judge(led: Led) -> Weighed
+fn judge(led: Led) -> Result<(), Refusal>
     ensures { result ≡ judged_as led }
 {
     match led {
-        Led::Many => Weighed::Refused(Refusal::Paths),
-        Led::Others => Weighed::Refused(Refusal::Weights),
-        Led::Only => Weighed::Done,
+        Led::Many => Err(Refusal::Paths),
+        Led::Others => Err(Refusal::Weights),
+        Led::Only => Ok(()),
     }
 }
 
@@ -89,16 +75,13 @@ fn weigh_action(
     action: usize,
     total: u64,
     work: &mut [u64],
-) -> Weighed
+) -> Result<(), Refusal>
     requires { ActionTask arities.now listings.now table.now action work.old }
     ensures { result ≡ weighed_as (weighed arities.now total (action_at listings.now table.now action ∷ [])) }
 {
     let mut sum = [0u64; diagram::RESULT_WORDS];
-    let r = weights_sum(arities, listings, table, action, &mut sum, work);
-    match r {
-        Step::Rows(n) => judge(contradict::leads_to(arities, &sum[..n * 3], total)),
-        Step::Refused(e) => Weighed::Refused(e),
-    }
+    let n = weights_sum(arities, listings, table, action, &mut sum, work)?;
+    judge(contradict::leads_to(arities, &sum[..n * 3], total))
 }
 
 // The check of the weights, action by action: the sum of an action's weights, with its own 10, 11, 9, then 17, then 13.
@@ -108,19 +91,14 @@ pub fn weigh(
     table: &[u64],
     head: Head,
     work: &mut [u64],
-) -> Weighed
+) -> Result<(), Refusal>
     requires { Weighable arities.now listings.now table.now head work.old }
     ensures { result ≡ weighed_as (weighed arities.now head.total (model_of arities.now listings.now table.now head).actions) }
 {
     let actions = head.actions;
     let total = head.total;
-    let mut a = 0;
-    while a < actions {
-        let r = weigh_action(arities, listings, table, a, total, work);
-        let Weighed::Done = r else {
-            return r;
-        };
-        a += 1;
+    for a in 0..actions {
+        weigh_action(arities, listings, table, a, total, work)?;
     }
-    Weighed::Done
+    Ok(())
 }

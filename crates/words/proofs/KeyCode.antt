@@ -1,7 +1,7 @@
 -- Eight bytes fit a word, and the loop from the last byte down.
 use Prim.Native.Nat.{ℕ, zero, suc, ◌+◌, ◌*◌, ◌-◌, ◌<◌, ◌≤◌}
-use mathlib.Core.Path.{◌≡◌, refl, sym, ap, ◌∙◌}
-use mathlib.Core.List.{List, [], ◌∷◌}
+use mathlib.Core.Path.{◌≡◌, sym, ap, ◌∙◌}
+use mathlib.Core.List.{List}
 use native.Mathlib.Omega.{arith}
 use lib.ListN.{length, get_or, take, drop, drop_of_length-le, length-drop}
 use lib.Seq.{drop-cons, take_all}
@@ -51,7 +51,7 @@ little-suc : (s : List ℕ) (j : ℕ) → j < length s → little (drop j s) ≡
 unfolding little
 little-suc s j h = rw (drop-cons s j 0 h)
 
-pub part-more : {s : List ℕ} {i v b : ℕ} → Part s i v → 0 < i → b ≡ get_or s (i - 1) 0 → b < 256 → Part s (i - 1) (b + v * 256)
+pub part-more : {s : List ℕ} {i v b : ℕ} → Part s i v → 0 < i → b ≡ get_or s (i - 1) 0 → get_or s (i - 1) 0 < 256 → Part s (i - 1) (v * 256 + b)
 part-more {s} {i} {v} {b} p h e l =
     let w = p.within in
     let q : suc (i - 1) ≡ i = omega arith in
@@ -59,16 +59,9 @@ part-more {s} {i} {v} {b} p h e l =
     record {
       within = omega arith;
       short = p.short;
-      is = rw (little-suc s (i - 1) (omega arith), d, e);
+      is = rw (little-suc s (i - 1) (omega arith), d) (omega arith);
       below = omega (arith, p.below, pow-suc (length s) i h w);
     }
-
-pub part_end : {s : List ℕ} {i v : ℕ} → Part s i v → i ≤ 0 → v ≡ little s
-part_end {s} {i} {v} p h = let e : i ≡ 0 = omega arith in p.is ∙ ap (λ (j : ℕ). little (drop j s)) e ∙ ap little (drop-zero s)
-  where
-    drop-zero : (x : List ℕ) → drop 0 x ≡ x
-    drop-zero [] = refl
-    drop-zero (a ∷ x) = refl
 
 key-eq : (x y : Key) → x.a ≡ y.a → x.b ≡ y.b → x ≡ y
 key-eq x y p q = λ i. record { a = p i; b = q i }

@@ -1,1 +1,2 @@
 pub mod KeyCode
+pub mod RunCode

@@ -7,7 +7,6 @@
 --   over, value_of == 10^18 + 1; the number that digits write, held at it
 --   IsName == 1 to 15 lower-case letters or digits, a letter first
 --   IsNumber == one digit at least, and no 0 before another
---   Took == so many bytes, or none (an enum of the code)
 --   name_form, number_form == the name, the number that the bytes begin with
 --   Key, little, key_of == a name as two numbers: its first eight bytes and the others, the first byte lowest
 --   bytes_within, name_of == the bytes of a number; the name of a key

@@ -7,15 +7,8 @@ ghost use Rattle.words.specs.Inner.{name_form};
 ghost use Rattle.words.specs.Words.{number_form};
 ghost use Rattle.words.specs.Keys.{little, key_of};
 
-// How many bytes a form took, or that the bytes do not begin with one.
-#[derive(Clone, Copy)]
-pub enum Took {
-    Bytes(usize),
-    Refused,
-}
-
 // A name: its first eight bytes and the others, the first byte lowest.
-#[derive(Clone, Copy)]
+#[derive(Clone, Copy, PartialEq, Eq)]
 pub struct Key {
     pub a: u64,
     pub b: u64,
@@ -35,18 +28,21 @@ pub fn rest(s: &[u8], i: usize) -> &[u8]
     if i <= s.len() { &s[i..] } else { &s[..0] }
 }
 
+#[tactic(auto, unfolding(crate::specs::Bytes::is_letter))]
 pub fn letter(b: u8) -> bool
     ensures { result ≡ is_letter b }
 {
-    97 <= b && b <= 122
+    matches!(b, b'a'..=b'z')
 }
 
+#[tactic(auto, unfolding(crate::specs::Bytes::is_digit))]
 pub fn digit(b: u8) -> bool
     ensures { result ≡ is_digit b }
 {
-    48 <= b && b <= 57
+    matches!(b, b'0'..=b'9')
 }
 
+#[tactic(auto, unfolding(crate::specs::Bytes::is_name_byte))]
 pub fn name_byte(b: u8) -> bool
     ensures { result ≡ is_name_byte b }
 {
@@ -57,59 +53,39 @@ pub fn name_byte(b: u8) -> bool
 pub fn name_run(s: &[u8]) -> usize
     ensures { result ≡ run is_name_byte s.now }
 {
-    let mut i = 0;
-    while i < s.len() {
-        if !name_byte(s[i]) {
-            return i;
-        }
-        i += 1;
-    }
-    i
+    s.iter().take_while(|b| name_byte(**b)).count()
 }
 
 // How many digits s begins with.
 pub fn digit_run(s: &[u8]) -> usize
     ensures { result ≡ run is_digit s.now }
 {
-    let mut i = 0;
-    while i < s.len() {
-        if !digit(s[i]) {
-            return i;
-        }
-        i += 1;
-    }
-    i
+    s.iter().take_while(|b| digit(**b)).count()
 }
 
 // The name that s begins with: how many bytes it has.
-pub fn read_name(s: &[u8]) -> Took
+#[tactic(auto, unfolding(crate::specs::Inner::name_form))]
+pub fn read_name(s: &[u8]) -> Option<usize>
     ensures { result ≡ name_form s.now }
 {
-    let first = byte_at(s, 0);
-    if letter(first) {
-        let n = name_run(s);
-        if n <= 15 {
-            return Took::Bytes(n);
-        }
+    if !letter(byte_at(s, 0)) {
+        return None;
     }
-    Took::Refused
+    let n = name_run(s);
+    if n <= 15 { Some(n) } else { None }
 }
 
 // The number that s begins with: how many digits it has.
-pub fn read_number(s: &[u8]) -> Took
+#[tactic(auto, unfolding(crate::specs::Words::number_form))]
+pub fn read_number(s: &[u8]) -> Option<usize>
     ensures { result ≡ number_form s.now }
 {
     let n = digit_run(s);
-    if n == 0 {
-        return Took::Refused;
+    if n == 0 || n != 1 && byte_at(s, 0) == b'0' {
+        None
+    } else {
+        Some(n)
     }
-    let first = byte_at(s, 0);
-    if first == 48 {
-        if n != 1 {
-            return Took::Refused;
-        }
-    }
-    Took::Bytes(n)
 }
 
 const OVER: u64 = 1000000000000000001;
@@ -120,24 +96,10 @@ pub fn value(s: &[u8]) -> u64
     ensures { result ≡ value_of s.now }
 {
     let mut v: u64 = 0;
-    let mut i = 0;
-    while i < s.len() {
-        let d = (s[i] - 48) as u64;
-        let w = v * 10 + d;
-        if OVER < w {
-            v = OVER;
-        } else {
-            v = w;
-        }
-        i += 1;
+    for b in s {
+        v = (v * 10 + u64::from(*b - b'0')).min(OVER);
     }
     v
-}
-
-fn wide(b: u8) -> u64
-    ensures { (result ≡ b) × (result < 256) }
-{
-    b as u64
 }
 
 // At most eight bytes as one number.
@@ -145,12 +107,9 @@ fn little_of(s: &[u8]) -> u64
     requires { length s.now ≤ 8 }
     ensures { result ≡ little s.now }
 {
-    let mut i = s.len();
     let mut v: u64 = 0;
-    while 0 < i {
-        i -= 1;
-        let b = wide(s[i]);
-        v = b + v * 256;
+    for i in (0..s.len()).rev() {
+        v = v * 256 + u64::from(s[i]);
     }
     v
 }
@@ -166,7 +125,8 @@ pub fn key_of(s: &[u8]) -> Key
             b: 0,
         };
     }
-    let a = little_of(&s[..8]);
-    let b = little_of(&s[8..]);
-    Key { a: a, b: b }
+    Key {
+        a: little_of(&s[..8]),
+        b: little_of(&s[8..]),
+    }
 }

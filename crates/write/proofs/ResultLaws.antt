@@ -25,11 +25,11 @@ use Rattle.diagram.specs.RowLaws.{rows-kept, kept-index-is}
 use Rattle.diagram.specs.Shown.{Shown, agrees, mem-tree}
 use Rattle.apply.proofs.RowLaws.{rows-onto}
 use Rattle.store.proofs.SpaceLaws.{written-trees}
-use Rattle.write.specs.declared.Listed.TheVariants.{Rows, TooMany}
 use Rattle.write.specs.Numbering.{Marked, Unmarked, Unnumbered, Downward, Numbered}
 use Rattle.write.specs.Writing.{renumbered, listed_rows, Emittable, Writable, write_answer, write_words, WritePost}
 use Rattle.write.proofs.NumberLaws.{place_of}
 use Rattle.write.proofs.WriteLaws.{row_words, renumbered-leaf, renumbered-branch, listed-none, listed-snoc}
+use Rattle.std.specs.Prelude.{None, Some}
 
 below_at : (m : ℕ) (xs : List ℕ) (i : ℕ) → AllBelow m xs → i < length xs → get_or xs i 0 < m
 below_at m [] i a h = absurd (omega arith)
@@ -177,14 +177,14 @@ module _ {s : List ℕ} {count root : ℕ} {marks order out : List ℕ} (w : Wri
     unfolding listing
     listing-is = ap (encode (rows D)) rows_are ∙ words-up_to m (omega arith)
 
-    pub write-many : most_rows < m → {marks'' : List ℕ} → Unmarked marks'' → WritePost s root out TooMany marks'' out
+    pub write-many : most_rows < m → {marks'' : List ℕ} → Unmarked marks'' → WritePost s root out None marks'' out
     unfolding write_answer write_words
     write-many h u =
         let e = lt-leb (length (rows D)) most_rows (omega (arith, row_count)) in
         record { answer = rw e; words = rw e; unmarked = u }
 
     pub write-rows : m ≤ most_rows → {out' marks'' : List ℕ} → out' ≡ listed_rows s marks' (take m order') ++ drop (m * 3) out → Unmarked marks''
-        → WritePost s root out (Rows m) marks'' out'
+        → WritePost s root out (Some m) marks'' out'
     unfolding write_answer write_words
     write-rows h {out'} {marks''} p u =
         let e = le-leb (length (rows D)) most_rows (omega (arith, row_count)) in

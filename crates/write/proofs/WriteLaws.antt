@@ -135,7 +135,7 @@ module _ {s marks order out₀ out : List ℕ} {m j : ℕ} (g : Emitting s marks
       let e : j ≡ m = omega (arith, g.below) in
       sym (take-append-drop (m * 3) out) ∙ ap₂ ◌++◌ (rw e at g.front) (rw e at g.rest)
 
--- the loop of `copy`
+-- a loop that copies words one by one
 pub record Copying (s out₀ out : List ℕ) (n i : ℕ) : Type 0 where
   pub below : i ≤ n
   pub room : n ≤ length out

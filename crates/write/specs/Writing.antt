@@ -11,9 +11,8 @@ use Rattle.diagram.specs.Listing.{listing}
 use Rattle.diagram.specs.Validity.{tree}
 use Rattle.diagram.specs.Inner.{Written}
 use Rattle.store.specs.Space.{diagrams_of}
-use Rattle.write.specs.declared.Listed.{Listed}
-use Rattle.write.specs.declared.Listed.TheVariants.{Rows, TooMany}
 use Rattle.write.specs.Numbering.{Unmarked}
+use Rattle.std.specs.Prelude.{None, Option, Some}
 
 -- row k as it stands in the listing: its children by their numbers
 unfoldable pub renumbered : List ℕ → List ℕ → ℕ → Row
@@ -54,15 +53,15 @@ pub record Writable (s : List ℕ) (count root : ℕ) (marks order out : List �
   pub room : most_rows * 3 ≤ length out
 
 -- what writing the diagram d answers: its count of rows, or that they are above 1,024 (refusal 9)
-unfoldable pub write_answer : Diagram → Listed
-write_answer d = cond (leb (length (rows d)) most_rows) (Rows (length (rows d))) TooMany
+unfoldable pub write_answer : Diagram → Option ℕ
+write_answer d = cond (leb (length (rows d)) most_rows) (Some (length (rows d))) None
 
 -- the result buffer then: d's listing, and the words behind it as they were
 unfoldable pub write_words : Diagram → List ℕ → List ℕ
 write_words d out = cond (leb (length (rows d)) most_rows) (listing d ++ drop (length (rows d) * 3) out) out
 
 -- what `write` ensures
-pub record WritePost (s : List ℕ) (root : ℕ) (out : List ℕ) (r : Listed) (marks' out' : List ℕ) : Type 0 where
+pub record WritePost (s : List ℕ) (root : ℕ) (out : List ℕ) (r : Option ℕ) (marks' out' : List ℕ) : Type 0 where
   pub answer : r ≡ write_answer (tree s root)
   pub words : out' ≡ write_words (tree s root) out
   pub unmarked : Unmarked marks'

@@ -11,13 +11,6 @@ ghost use Rattle.write.specs.Renaming.{listed_in, word_after, Word, Renamable};
 use label::Label;
 use table::Row;
 
-// What writing a listing answers: its rows, or that they are too many.
-#[derive(Clone, Copy)]
-pub enum Listed {
-    Rows(usize),
-    TooMany,
-}
-
 // Gives row i the number n: how many rows have one then.
 fn place(marks: &mut [u16], order: &mut [u16], n: usize, i: usize) -> usize
     requires { Placeable marks.old order.old n i }
@@ -54,9 +47,10 @@ fn visit(space: &[u64], marks: &mut [u16], order: &mut [u16], n: usize, i: usize
     ensures { Numbered space.now marks.old order.old n i result marks.new order.new }
 {
     if basics::wide(marks[i]) != 0 {
-        return n;
+        n
+    } else {
+        number(space, marks, order, n, i)
     }
-    number(space, marks, order, n, i)
 }
 
 // Takes the marks of the first m rows numbered away.
@@ -64,10 +58,8 @@ pub fn unmark(marks: &mut [u16], order: &[u16], m: usize)
     requires { Marked marks.old order.now m }
     ensures { Unmarked marks.new }
 {
-    let mut j = 0;
-    while j < m {
-        marks[basics::wide(order[j])] = 0;
-        j += 1;
+    for i in &order[..m] {
+        marks[basics::wide(*i)] = 0;
     }
 }
 
@@ -100,11 +92,8 @@ pub fn emit(space: &[u64], marks: &[u16], order: &[u16], m: usize, out: &mut [u6
     requires { Emittable space.now marks.now order.now m out.old }
     ensures { out.new ≡ listed_rows space.now marks.now (take m order.now) ++ drop (m * 3) out.old }
 {
-    let mut j = 0;
-    while j < m {
-        let row = renumber(space, marks, basics::wide(order[j]));
-        table::put(out, j, row);
-        j += 1;
+    for (j, i) in order[..m].iter().enumerate() {
+        table::put(out, j, renumber(space, marks, basics::wide(*i)));
     }
 }
 
@@ -116,18 +105,18 @@ pub fn write(
     marks: &mut [u16],
     order: &mut [u16],
     out: &mut [u64],
-) -> Listed
+) -> Option<usize>
     requires { Writable space.now count root marks.old order.old out.old }
     ensures { WritePost space.now root out.old result marks.new out.new }
 {
     let m = number(space, marks, order, 0, root);
     if m > diagram::ROWS {
         unmark(marks, order, m);
-        return Listed::TooMany;
+        return None;
     }
     emit(space, marks, order, m, out);
     unmark(marks, order, m);
-    Listed::Rows(m)
+    Some(m)
 }
 
 // Writes the first count rows of the space as they stand: the listing, where they were formed in an empty space in its order. The words behind stay.
@@ -137,11 +126,7 @@ pub fn copy(space: &[u64], count: usize, out: &mut [u64])
     ensures { out.new ≡ take (count * 3) space.now ++ drop (count * 3) out.old }
 {
     let n = count * 3;
-    let mut i = 0;
-    while i < n {
-        out[i] = space[i];
-        i += 1;
-    }
+    out[..n].copy_from_slice(&space[..n]);
 }
 
 // The first word of a row renamed: a label, or a leaf's mark.
@@ -150,11 +135,10 @@ fn word_after(arities: &[u64], map: &[u64], x: u64) -> u64
     ensures { result ≡ word_after arities.now map.now x }
 {
     if x == Label::LEAF {
-        return x;
+        x
+    } else {
+        Label { packed: x }.renamed(arities, map).packed
     }
-    let l = Label { packed: x };
-    let r = l.renamed(arities, map);
-    r.packed
 }
 
 // Renames the listing that the first m rows of the buffer are, by a map of terms that keeps their order. The words behind stay.
@@ -162,10 +146,7 @@ pub fn rename(arities: &[u64], map: &[u64], out: &mut [u64], m: usize)
     requires { Renamable arities.now map.now out.old m }
     ensures { out.new ≡ listing (renamed_of arities.now map.now (listed_in out.old m)) ++ drop (m * 3) out.old }
 {
-    let mut i = 0;
-    while i < m {
-        let x = word_after(arities, map, out[i * 3]);
-        out[i * 3] = x;
-        i += 1;
+    for i in 0..m {
+        out[i * 3] = word_after(arities, map, out[i * 3]);
     }
 }

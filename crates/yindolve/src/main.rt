@@ -39,20 +39,14 @@ fn refill(rt: HostRuntime, t: Tally, block: &mut [u8], rest: Rest) -> Refilled
     let u = pipes::read(rt.stdin(), t, block, from);
     let more = pipes::last(u);
     let n = from + more;
-    Refilled { tally: u, n: n }
+    Refilled { tally: u, n }
 }
 
 // The position behind answers that are written.
 fn emptied(p: Position) -> Position
     ensures { result ≡ empty_at p }
 {
-    let numbers = p.numbers;
-    Position {
-        numbers: numbers,
-        lines: p.lines,
-        met: p.met,
-        end: 0,
-    }
+    Position { end: 0, ..p }
 }
 
 // Where the input ended, the answer of its end; where it could not be read, a line on standard error.
@@ -103,9 +97,8 @@ fn answer_input(
     let mut open = true;
     while open {
         let f = refill(rt, t, block, rest);
-        let n = f.n;
         let r = texts::answer_whole(
-            &block[..n],
+            &block[..f.n],
             0,
             p,
             MOST_BYTES,
@@ -118,11 +111,9 @@ fn answer_input(
             work,
             out,
         );
-        let q = r.position;
-        let end = q.end;
-        t = pipes::write(rt.stdout(), f.tally, &out[..end]);
-        p = emptied(q);
-        rest = texts::keep_rest(block, r.at, n);
+        t = pipes::write(rt.stdout(), f.tally, &out[..r.position.end]);
+        p = emptied(r.position);
+        rest = texts::keep_rest(block, r.at, f.n);
         open = pipes::is_open(t);
     }
     finish(rt, t, rest.count, p, out)

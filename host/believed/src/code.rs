@@ -55,9 +55,12 @@ fn words(text: &str) -> Vec<String> {
     found
 }
 
-/// Names of types: not a number's, and not lower-case words.
+/// The types of the standard library that answers have: a reader knows them.
+const KNOWN: [&str; 2] = ["Option", "Result"];
+
+/// Names of types: not a number's, not lower-case words, and none that a reader knows.
 fn type_names(words: &[String]) -> Vec<String> {
-    words.iter().filter(|word| word.starts_with(|c: char| c.is_uppercase())).cloned().collect()
+    words.iter().filter(|word| word.starts_with(|c: char| c.is_uppercase()) && !KNOWN.contains(&word.as_str())).cloned().collect()
 }
 
 fn uncommented(line: &str) -> &str {

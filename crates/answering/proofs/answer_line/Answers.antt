@@ -1,4 +1,7 @@
-use Rattle.answering.proofs.LineLaws.{line-value, line-backup, line-cut, line-reduce, line_refused, line-show, line-text, line-best, line-count, line-did, line-none}
+use Rattle.std.specs.Prelude.{◌≡◌, []}
+use Rattle.std.proofs.Common.{arith}
+use Rattle.answers.specs.Answers.{answer_line}
+use Rattle.answering.proofs.LineLaws.{line-value, line-backup, line-cut, line-reduce, line_refused, line-best, line-did, line-none}
 use Rattle.answering.proofs.answer_line.Goals as goal
 
 pub returns-in-Value : goal.returns-in-Value
@@ -21,26 +24,15 @@ pub returns-in-Refused : goal.returns-in-Refused
 returns-in-Refused c =
     search line_refused
 
-pub returns-in-Show : goal.returns-in-Show
-returns-in-Show c =
-    search line-show
-
-pub returns-in-Text : goal.returns-in-Text
-returns-in-Text c =
-    search line-text
-
 pub returns-in-Best : goal.returns-in-Best
 returns-in-Best c =
     search line-best
-
-pub returns-in-Count : goal.returns-in-Count
-returns-in-Count c =
-    search line-count
 
 pub returns-in-Did : goal.returns-in-Did
 returns-in-Did c =
     search line-did
 
-pub returns-in-Nothing : goal.returns-in-Nothing
-returns-in-Nothing c =
-    search line-none
+pub returns-in-Show : goal.returns-in-Show
+unfolding answer_line
+returns-in-Show c =
+    let e : answer_line c.args.answer ≡ [] = grind (arith, c.in-Show.is) in line-none c.args.line.now c.args.answer e

@@ -9,4 +9,4 @@ loop-i-init c =
 pub loop-i-preserved : goal.loop-i-preserved
 loop-i-preserved c =
     let byte = c.type_inv.objects c.loop-i.i in
-    object-more c.requires c.loop-i.invariant c.loop-i-test.true c.if-i-n.false (omega (arith, byte)) c.put_field-end.auto.out c.put_field-end.ensures
+    object-more c.requires c.loop-i.invariant c.loop-i-test.true c.if-i-n.false (omega (arith, byte)) c.put_field-end.auto.out (rw c.from.ensures at c.put_field-end.ensures)

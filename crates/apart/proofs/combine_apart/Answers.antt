@@ -7,4 +7,4 @@ returns-in_default c =
 
 pub combine_moved-requires : goal.combine_moved-requires
 combine_moved-requires c =
-    apart-separable c.requires c.used.ensures c.used-2.ensures c.set_aside.ensures c.in-From.is
+    apart-separable c.requires c.used.ensures c.used-2.ensures c.set_aside.ensures c.in-Some.is

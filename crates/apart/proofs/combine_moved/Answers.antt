@@ -12,12 +12,12 @@ returns-in_default c =
 
 pub returns-in_default-enter : goal.returns-in_default-enter
 returns-in_default-enter c =
-    moved-full-2 c.requires c.enter.ensures c.in-Row.is c.enter-2.ensures _ c.in_default-enter.is
+    moved-full-2 c.requires c.enter.ensures c.in-Some.is c.enter-2.ensures _ c.in_default-enter.is
 
 pub join-requires : goal.join-requires
 join-requires c =
-    moved-joinable c.requires c.enter.ensures c.in-Row.is c.enter-2.ensures c.in-Row-enter.is
+    moved-joinable c.requires c.enter.ensures c.in-Some.is c.enter-2.ensures c.in-Some-enter.is
 
 pub returns : goal.returns
 returns c =
-    moved-done c.requires c.enter.ensures c.in-Row.is c.enter-2.ensures c.in-Row-enter.is c.join.ensures
+    moved-done c.requires c.enter.ensures c.in-Some.is c.enter-2.ensures c.in-Some-enter.is c.join.ensures

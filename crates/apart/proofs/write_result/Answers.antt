@@ -12,8 +12,8 @@ returns-in_default c =
 
 pub close_up-requires : goal.close_up-requires
 close_up-requires c =
-    result-closable c.requires c.write.ensures c.in-Rows.is
+    result-closable c.requires c.write.ensures c.in-Some.is
 
 pub returns : goal.returns
 returns c =
-    result-done c.requires c.write.ensures c.in-Rows.is _ c.close_up.ensures
+    result-done c.requires c.write.ensures c.in-Some.is _ c.close_up.ensures

@@ -3,6 +3,3 @@ use Rattle.best_move.proofs.objects_at.Given as goal
 
 abbrev pub invariant-loop-k : goal.invariant-loop-k
 invariant-loop-k l = Dividing l.initial.objects l.n l.count l.i l.objects l.rest l.k
-
-abbrev pub decreases-loop-k : goal.decreases-loop-k
-decreases-loop-k l = l.k

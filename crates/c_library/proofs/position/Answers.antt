@@ -3,4 +3,4 @@ use Rattle.c_library.proofs.position.Goals as goal
 
 pub returns : goal.returns
 returns c =
-    position-is _ c.load-n.ensures c.lines_of-lines.ensures c.met_of-met.ensures
+    position-is _ c.load.ensures c.lines_of.ensures c.met_of.ensures

@@ -12,28 +12,28 @@ pub returns-then-answer-lt-MOST_BYTES : goal.returns-then-answer-lt-MOST_BYTES
 returns-then-answer-lt-MOST_BYTES c =
     close-small c.args.numbers.now c.args.answer.now c.can_close.ensures (not_from_true _ c.if-not-can_close.false) c.if-answer-lt-MOST_BYTES.true c.number-then-answer-lt-MOST_BYTES.ensures
 
-pub load-n-requires : goal.load-n-requires
-load-n-requires c =
+pub load-requires : goal.load-requires
+load-requires c =
     close-room c.args.numbers.now c.can_close.ensures (not_from_true _ c.if-not-can_close.false)
 
-pub met_of-met-requires : goal.met_of-met-requires
-met_of-met-requires c =
+pub met_of-requires : goal.met_of-requires
+met_of-requires c =
     close-room c.args.numbers.now c.can_close.ensures (not_from_true _ c.if-not-can_close.false)
 
-pub end-ran-requires-clause-end_in_bounds : goal.end-ran-requires-clause-end_in_bounds
-end-ran-requires-clause-end_in_bounds c =
+pub end-requires-clause-end_in_bounds : goal.end-requires-clause-end_in_bounds
+end-requires-clause-end_in_bounds c =
     omega arith
 
-pub end-ran-requires-clause-lines_lt_most_lines : goal.end-ran-requires-clause-lines_lt_most_lines
-end-ran-requires-clause-lines_lt_most_lines c =
+pub end-requires-clause-lines_lt_most_lines : goal.end-requires-clause-lines_lt_most_lines
+end-requires-clause-lines_lt_most_lines c =
     omega arith
 
 pub returns-in-Done : goal.returns-in-Done
 returns-in-Done c =
-    close-done c.args.numbers.now c.args.answer.now c.can_close.ensures (not_from_true _ c.if-not-can_close.false) c.if-answer-lt-MOST_BYTES.false c.load-n.ensures
-    c.met_of-met.ensures c.end-ran.ensures c.in-Done.is
+    close-done c.args.numbers.now c.args.answer.now c.can_close.ensures (not_from_true _ c.if-not-can_close.false) c.if-answer-lt-MOST_BYTES.false c.load.ensures
+    c.met_of.ensures c.end.ensures c.in-Done.is
 
 pub returns-in-Full : goal.returns-in-Full
 returns-in-Full c =
-    close_never c.args.numbers.now c.args.answer.now c.can_close.ensures (not_from_true _ c.if-not-can_close.false) c.if-answer-lt-MOST_BYTES.false c.load-n.ensures
-    c.met_of-met.ensures c.end-ran.ensures c.in-Full.is
+    close_never c.args.numbers.now c.args.answer.now c.can_close.ensures (not_from_true _ c.if-not-can_close.false) c.if-answer-lt-MOST_BYTES.false c.load.ensures
+    c.met_of.ensures c.end.ensures c.in-Full.is

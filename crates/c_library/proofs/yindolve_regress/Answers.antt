@@ -1,10 +1,13 @@
-use Rattle.c_library.proofs.CallLaws.{regressed-done, regressed-refused}
+use mathlib.Core.Path.{ap, ◌∙◌}
+use Prim.Native.Nat.{ℕ}
+use Rattle.std.specs.Prelude.{Result}
+use Rattle.refusal.specs.declared.Refusal.{Refusal}
+use Rattle.c_library.specs.Answers.{rows_number, rows_after}
 use Rattle.c_library.proofs.yindolve_regress.Goals as goal
 
-pub returns-in-Done : goal.returns-in-Done
-returns-in-Done c =
-    regressed-done _ c.regress-answer.ensures.value c.regress-answer.ensures.out_after c.in-Done.is
-
-pub returns-in-Refused : goal.returns-in-Refused
-returns-in-Refused c =
-    regressed-refused _ c.regress-answer.ensures.value c.regress-answer.ensures.out_after c.in-Refused.is c.number.ensures
+pub returns : goal.returns
+returns c = record {
+  answer = c.told_rows.ensures.number ∙ ap rows_number c.regress-answer.ensures.value;
+  buffer = c.regress-answer.ensures.out_after;
+  row_count = c.told_rows.ensures.count ∙ ap (λ (z : Result ℕ Refusal). rows_after z c.args.rows.now) c.regress-answer.ensures.value;
+}

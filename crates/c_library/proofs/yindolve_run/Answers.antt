@@ -3,8 +3,8 @@ use Rattle.c_library.proofs.yindolve_run.Goals as goal
 
 pub returns-in-Done : goal.returns-in-Done
 returns-in-Done c =
-    ran-done _ _ c.run-ran.ensures c.in-Done.is
+    ran-done _ _ c.run.ensures c.in-Done.is
 
 pub returns-in-Full : goal.returns-in-Full
 returns-in-Full c =
-    ran-full _ _ c.run-ran.ensures c.in-Full.is
+    ran-full _ _ c.run.ensures c.in-Full.is

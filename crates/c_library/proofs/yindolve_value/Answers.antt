@@ -1,10 +1,10 @@
 use Rattle.c_library.proofs.CallLaws.{valued-done, valued-refused}
 use Rattle.c_library.proofs.yindolve_value.Goals as goal
 
-pub returns-in-Value : goal.returns-in-Value
-returns-in-Value c =
-    valued-done _ c.value-answer.ensures c.in-Value.is
+pub returns-in-Ok : goal.returns-in-Ok
+returns-in-Ok c =
+    valued-done _ c.value.ensures c.in-Ok.is
 
-pub returns-in-Refused : goal.returns-in-Refused
-returns-in-Refused c =
-    valued-refused _ c.value-answer.ensures c.in-Refused.is c.number.ensures
+pub returns-in-Err : goal.returns-in-Err
+returns-in-Err c =
+    valued-refused _ c.value.ensures c.in-Err.is c.number.ensures

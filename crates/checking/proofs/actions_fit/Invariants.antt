@@ -1,10 +1,6 @@
 use Rattle.checking.proofs.TestLaws.{Looked}
 use Rattle.checking.specs.Fitting.{action_fits}
-use Prim.Native.Nat.{◌-◌}
 use Rattle.checking.proofs.actions_fit.Given as goal
 
 abbrev pub invariant-loop-a : goal.invariant-loop-a
 invariant-loop-a l = Looked l.n (action_fits l.arities l.listings l.table l.used) l.a
-
-abbrev pub decreases-loop-a : goal.decreases-loop-a
-decreases-loop-a l = l.n - l.a

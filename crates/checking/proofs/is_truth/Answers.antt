@@ -23,4 +23,4 @@ returns-in_default c =
 pub returns : goal.returns
 returns c =
     truth-rest _ _ _ _ c.check.ensures (not_from_true _ c.if-not-check.false) c.judge-v.ensures
-    c.in-Passed.is c.lacks.ensures
+    c.in-Ok.is c.lacks.ensures

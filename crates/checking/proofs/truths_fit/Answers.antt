@@ -1,5 +1,4 @@
 use Rattle.checking.proofs.TestLaws.{looked-start, looked-on, looked-no, looked-all}
-use Rattle.checking.specs.Fitting.{truth_fits}
 use Rattle.std.proofs.lemmas.Bool.{not_from_false}
 use Rattle.std.proofs.lemmas.Bool.{not_from_true}
 use Rattle.checking.proofs.truths_fit.Goals as goal

@@ -3,8 +3,8 @@ use Rattle.combination.proofs.combine_many.Goals as goal
 
 pub finish-requires : goal.finish-requires
 finish-requires c =
-    shared-finishable c.shared_many-r.ensures c.requires.out-room
+    shared-finishable c.shared_with-r.ensures c.requires.out-room
 
 pub returns : goal.returns
 returns c =
-    shared-out _ _ _ _ c.shared_many-r.ensures c.finish.ensures
+    shared-out _ _ _ _ c.shared_with-r.ensures c.finish.ensures

@@ -9,13 +9,13 @@ pub form_at-requires-clause-formable_at : goal.form_at-requires-clause-formable_
 form_at-requires-clause-formable_at c =
     loop-formable c.requires.formable c.loop-k.invariant c.loop-k-test.true
 
-pub returns-in_default : goal.returns-in_default
-returns-in_default c =
-    loop-full c.requires.formable c.loop-k.invariant c.loop-k-test.true c.form_at.ensures c.in_default.is
+pub returns-in_err-row : goal.returns-in_err-row
+returns-in_err-row c =
+    rw c.from_residual.ensures (loop-full c.requires.formable c.loop-k.invariant c.loop-k-test.true c.form_at.ensures c.in_err-row.was)
 
 pub loop-k-preserved : goal.loop-k-preserved
 loop-k-preserved c =
-    loop-step c.requires.formable c.loop-k.invariant c.loop-k-test.true c.form_at.ensures c.in-Row.is
+    loop-step c.requires.formable c.loop-k.invariant c.loop-k-test.true c.form_at.ensures c.in_ok-row.was
     c.form_at.auto.space c.form_at.auto.heads c.form_at.auto.links
 
 pub returns : goal.returns

@@ -1,10 +1,9 @@
-use borrow.Author.Rules.{rules}
 use Rattle.combine.proofs.LeafLaws.{overflow-hit, overflow-on, overflow-start}
 use Rattle.combine.proofs.overflow.Goals as goal
 
 pub loop-k-init : goal.loop-k-init
 loop-k-init c =
-    (search rules, overflow-start _ _)
+    overflow-start _ _
 
 pub returns-then-too_high_at : goal.returns-then-too_high_at
 returns-then-too_high_at c =
@@ -12,4 +11,4 @@ returns-then-too_high_at c =
 
 pub loop-k-preserved : goal.loop-k-preserved
 loop-k-preserved c =
-    (search rules, search overflow-on)
+    search overflow-on

@@ -19,10 +19,10 @@ overflow-requires c =
 
 pub returns-then-overflow : goal.returns-then-overflow
 returns-then-overflow c =
-    out-high c.requires c.walk.ensures _ _ c.in-To.is c.clear-2.ensures.clean c.overflow.ensures
+    out-high c.requires c.walk.ensures _ _ c.in-Some.is c.clear-2.ensures.clean c.overflow.ensures
     c.if-overflow.true
 
-pub returns : goal.returns
-returns c =
-    out-pairs c.requires c.walk.ensures _ _ c.in-To.is c.clear-2.ensures.clean c.overflow.ensures
+pub returns-else-overflow : goal.returns-else-overflow
+returns-else-overflow c =
+    out-pairs c.requires c.walk.ensures _ _ c.in-Some.is c.clear-2.ensures.clean c.overflow.ensures
     c.if-overflow.false

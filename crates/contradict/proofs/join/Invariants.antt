@@ -1,10 +1,5 @@
-use Prim.Native.Nat.{◌-◌}
-use Rattle.label.specs.Limits.{term_end}
 use Rattle.contradict.specs.Representing.{Merged}
 use Rattle.contradict.proofs.join.Given as goal
 
 abbrev pub invariant-loop-x : goal.invariant-loop-x
 invariant-loop-x l = Merged l.initial.table l.t l.u l.table l.x
-
-abbrev pub decreases-loop-x : goal.decreases-loop-x
-decreases-loop-x l = term_end - l.x

@@ -1,10 +1,5 @@
-use Prim.Native.Nat.{◌-◌}
-use Rattle.label.specs.Limits.{term_end}
 use Rattle.contradict.specs.Representing.{Own}
 use Rattle.contradict.proofs.separate.Given as goal
 
 abbrev pub invariant-loop-t : goal.invariant-loop-t
 invariant-loop-t l = Own l.initial.table l.table l.t
-
-abbrev pub decreases-loop-t : goal.decreases-loop-t
-decreases-loop-t l = term_end - l.t

@@ -1,5 +1,6 @@
 use Rattle.count_states.proofs.ChoiceLaws.{pick-start, pick-from, pick-room, pick_odd, pick_even, pick_end}
 use Rattle.count_states.proofs.choose.Goals as goal
+use Rattle.count_states.proofs.choose.Goals.{then-rest-eq1, else-rest-eq1}
 
 pub loop-i-init : goal.loop-i-init
 loop-i-init c =
@@ -13,13 +14,12 @@ pub copy_row-requires-clause-fact_words_in_bounds_2 : goal.copy_row-requires-cla
 copy_row-requires-clause-fact_words_in_bounds_2 c =
     search pick-room
 
-pub loop-i-preserved-then-rest-eq1 : goal.loop-i-preserved-then-rest-eq1
-loop-i-preserved-then-rest-eq1 c =
-    search pick_odd
-
 pub loop-i-preserved : goal.loop-i-preserved
 loop-i-preserved c =
-    search pick_even
+    elim c.if-rest-eq1.branch [
+      | then-rest-eq1 w ↦ rw (w.facts-is, w.m-is) (search (pick_odd, w.copy_row.ensures, w.if-rest-eq1.true))
+      | else-rest-eq1 w ↦ rw (w.facts-is, w.m-is) (search (pick_even, w.if-rest-eq1.false))
+    ]
 
 pub returns : goal.returns
 returns c =

@@ -1,4 +1,5 @@
 use Rattle.count_states.proofs.StateLaws.{counting-start, choices-power, choices-kept, counting-refused, counting-enterable, counting-end, value-some, counting-on}
+use Rattle.std.proofs.lemmas.Result.{err_from_is_err_and}
 use Rattle.count_states.proofs.count_choices.Goals as goal
 
 pub power-states-requires : goal.power-states-requires
@@ -13,13 +14,14 @@ pub value_choice-requires-clause-choices : goal.value_choice-requires-clause-cho
 value_choice-requires-clause-choices c =
     search choices-kept
 
-pub returns-in_default : goal.returns-in_default
-returns-in_default c =
-    search counting-refused
+pub returns-in_err-v : goal.returns-in_err-v
+returns-in_err-v c =
+    let p = err_from_is_err_and c.from_residual.result c.from_residual.ensures.1 in
+    rw (p.1, p.2) (search (counting-refused, c.in_err-v.was))
 
 pub overflow_sub-v : goal.overflow_sub-v
 overflow_sub-v c =
-    search value-some
+    search (value-some, c.in_ok-v.was)
 
 pub enter-count-requires : goal.enter-count-requires
 enter-count-requires c =
@@ -27,7 +29,7 @@ enter-count-requires c =
 
 pub loop-c-preserved : goal.loop-c-preserved
 loop-c-preserved c =
-    search counting-on
+    search (counting-on, c.in_ok-v.was)
 
 pub returns : goal.returns
 returns c =

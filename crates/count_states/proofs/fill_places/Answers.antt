@@ -1,13 +1,9 @@
-use Rattle.count_states.proofs.RowLaws.{fill_start, fill-room, fill_on, fill_end}
+use Rattle.count_states.proofs.RowLaws.{fill_start, fill_on, fill_end}
 use Rattle.count_states.proofs.fill_places.Goals as goal
 
 pub loop-j-init : goal.loop-j-init
 loop-j-init c =
     search fill_start
-
-pub bounds-row-j : goal.bounds-row-j
-bounds-row-j c =
-    search fill-room
 
 pub loop-j-preserved : goal.loop-j-preserved
 loop-j-preserved c =

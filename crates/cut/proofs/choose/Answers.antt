@@ -1,13 +1,8 @@
-use mathlib.Core.Path.{sym, ◌∙◌}
+use mathlib.Core.Path.{◌∙◌}
 use lib.Dec.{lit≤}
-use native.Mathlib.Omega.{arith}
 use borrow.Author.Rules.{rules}
 use Rattle.cut.proofs.ChoiceLaws.{known-none, choose-room, choose-start, choose-charted, choose-true, choose-false, choose-on, choose-none}
 use Rattle.cut.proofs.choose.Goals as goal
-
-pub find_leaves-requires-clause-routed : goal.find_leaves-requires-clause-routed
-find_leaves-requires-clause-routed c =
-    c.requires.routed
 
 pub find_leaves-requires-clause-m_in_bounds : goal.find_leaves-requires-clause-m_in_bounds
 find_leaves-requires-clause-m_in_bounds c =
@@ -15,60 +10,27 @@ find_leaves-requires-clause-m_in_bounds c =
 
 pub loop-i-init : goal.loop-i-init
 loop-i-init c =
-    (search rules, omega arith, known-none _ _ _ 65536 (lit≤ tt), choose-start _ _ _ c.requires.words_value c.requires.n_value)
-
-pub slice_bounds-edge_of-end-in-loop-i : goal.slice_bounds-edge_of-end-in-loop-i
-slice_bounds-edge_of-end-in-loop-i c =
-    sym c.loop-i.invariant.0
-
-pub overflow_sub-i : goal.overflow_sub-i
-overflow_sub-i c =
-    c.loop-i-test.true
+    (search rules, known-none _ _ _ 65536 (lit≤ tt), choose-start _ _ _ c.requires.words_value c.requires.n_value)
 
 pub edge_of-e-requires-clause-charted : goal.edge_of-e-requires-clause-charted
 edge_of-e-requires-clause-charted c =
     choose-charted _ _ _ c.requires.words_value c.requires.n_value c.requires.words_value_2 c.requires.routed c.find_leaves.ensures
 
-pub edge_of-e-requires-clause-known : goal.edge_of-e-requires-clause-known
-edge_of-e-requires-clause-known c =
-    c.loop-i.invariant.2
-
-pub edge_of-e-requires-clause-r_lt_n : goal.edge_of-e-requires-clause-r_lt_n
-edge_of-e-requires-clause-r_lt_n c =
-    omega (arith, c.loop-i-test.true, c.loop-i.invariant.1)
-
-pub overflow_sub-result : goal.overflow_sub-result
-overflow_sub-result c =
-    c.loop-i-test.true
-
 pub returns-then-e-eq1 : goal.returns-then-e-eq1
 returns-then-e-eq1 c =
-    choose-true _ _ _ c.requires.words_value c.requires.n_value c.loop-i.invariant.3 c.loop-i-test.true c.loop-i.invariant.1 c.edge_of-e.ensures c.if-e-eq1.true
-
-pub overflow_sub-result-then-e-eq2 : goal.overflow_sub-result-then-e-eq2
-overflow_sub-result-then-e-eq2 c =
-    c.loop-i-test.true
+    choose-true _ _ _ c.requires.words_value c.requires.n_value c.loop-i.invariant.2 c.loop-i-test.true c.loop-i.auto.i c.edge_of-e.ensures c.if-e-eq1.true
 
 pub returns-then-e-eq2 : goal.returns-then-e-eq2
 returns-then-e-eq2 c =
-    choose-false _ _ _ c.requires.words_value c.requires.n_value c.loop-i.invariant.3 c.loop-i-test.true c.loop-i.invariant.1 c.edge_of-e.ensures c.if-e-eq2.true
-
-pub overflow_sub-i-in-loop-i : goal.overflow_sub-i-in-loop-i
-overflow_sub-i-in-loop-i c =
-    c.loop-i-test.true
-
-pub loop-i-smaller : goal.loop-i-smaller
-loop-i-smaller c =
-    omega (arith, c.loop-i-test.true)
+    choose-false _ _ _ c.requires.words_value c.requires.n_value c.loop-i.invariant.2 c.loop-i-test.true c.loop-i.auto.i c.edge_of-e.ensures c.if-e-eq2.true
 
 pub loop-i-preserved : goal.loop-i-preserved
 loop-i-preserved c = (
   c.edge_of-e.auto.memo ∙ c.loop-i.invariant.0,
-  omega (arith, c.loop-i.invariant.1),
   c.edge_of-e.ensures.known,
-  choose-on _ _ _ c.requires.words_value c.requires.n_value c.loop-i.invariant.3 c.loop-i-test.true c.loop-i.invariant.1 c.edge_of-e.ensures c.if-e-eq1.false c.if-e-eq2.false,
+  choose-on _ _ _ c.requires.words_value c.requires.n_value c.loop-i.invariant.2 c.loop-i-test.true c.loop-i.auto.i c.edge_of-e.ensures c.if-e-eq1.false c.if-e-eq2.false,
 )
 
 pub returns : goal.returns
 returns c =
-    choose-none _ _ _ c.requires.words_value c.requires.n_value c.loop-i.invariant.3 c.loop-i-test.false
+    choose-none _ _ _ c.requires.words_value c.requires.n_value c.loop-i.invariant.2 c.loop-i-test.false

@@ -1,5 +1,4 @@
 use mathlib.Core.Path.{◌≡◌}
-use Prim.Native.Nat.{◌≤◌}
 use lib.ListN.{length}
 use Rattle.diagram.specs.Rows.{rows}
 use Rattle.diagram.specs.Listing.{diagram_of}
@@ -8,8 +7,5 @@ use Rattle.cut.specs.Choosing.{Known}
 use Rattle.cut.proofs.choose.Given as goal
 
 abbrev pub invariant-loop-i : goal.invariant-loop-i
-invariant-loop-i l = (length l.memo ≡ 65536) × (l.i ≤ l.n) × Known l.arities l.words l.memo l.n ×
+invariant-loop-i l = (length l.memo ≡ 65536) × Known l.arities l.words l.memo l.n ×
     (choice l.arities (diagram_of l.words) ≡ choice_below l.arities (diagram_of l.words) (rows (diagram_of l.words)) l.i)
-
-abbrev pub decreases-loop-i : goal.decreases-loop-i
-decreases-loop-i l = l.i

@@ -1,4 +1,3 @@
-use mathlib.Core.Path.{refl}
 use lib.Dec.{lit≤}
 use Rattle.cut.proofs.CallLaws.{cut-rows, cut-some, cut-room, cut-many, cut-routed, cut-nothing, cut-writable, cut-true, cut-false}
 use Rattle.cut.proofs.cut_plain.Goals as goal
@@ -15,25 +14,13 @@ pub overflow_sub-m : goal.overflow_sub-m
 overflow_sub-m c =
     cut-some c.requires
 
-pub choose-requires-clause-words_value : goal.choose-requires-clause-words_value
-choose-requires-clause-words_value c =
-    c.requires.call.listing
-
-pub choose-requires-clause-words_value_2 : goal.choose-requires-clause-words_value_2
-choose-requires-clause-words_value_2 c =
-    c.requires.plain
-
-pub choose-requires-clause-n_value : goal.choose-requires-clause-n_value
-choose-requires-clause-n_value c =
-    refl
-
 pub choose-requires-clause-routed : goal.choose-requires-clause-routed
 choose-requires-clause-routed c =
     cut-routed (c.requires) c.count_paths.ensures c.if-m-gt-PATHS.false
 
 pub write_left-left-requires : goal.write_left-left-requires
 write_left-left-requires c =
-    cut-writable (c.requires) c.count_paths.ensures c.if-m-gt-PATHS.false c.choose.ensures c.in-Edge.is
+    cut-writable (c.requires) c.count_paths.ensures c.if-m-gt-PATHS.false c.choose.ensures c.in-Some.is
 
 pub returns-then-m-gt-PATHS-clause-value : goal.returns-then-m-gt-PATHS-clause-value
 returns-then-m-gt-PATHS-clause-value c =
@@ -53,16 +40,16 @@ returns-in_default-clause-out_after c =
 
 pub returns-then-side-clause-value : goal.returns-then-side-clause-value
 returns-then-side-clause-value c =
-    (cut-true (c.requires) c.count_paths.ensures c.if-m-gt-PATHS.false c.choose.ensures c.in-Edge.is c.write_left-left.ensures c.if-side.true).0
+    (cut-true (c.requires) c.count_paths.ensures c.if-m-gt-PATHS.false c.choose.ensures c.in-Some.is c.write_left-left.ensures c.if-side.true).0
 
 pub returns-then-side-clause-out_after : goal.returns-then-side-clause-out_after
 returns-then-side-clause-out_after c =
-    (cut-true (c.requires) c.count_paths.ensures c.if-m-gt-PATHS.false c.choose.ensures c.in-Edge.is c.write_left-left.ensures c.if-side.true).1
+    (cut-true (c.requires) c.count_paths.ensures c.if-m-gt-PATHS.false c.choose.ensures c.in-Some.is c.write_left-left.ensures c.if-side.true).1
 
 pub returns-clause-value : goal.returns-clause-value
 returns-clause-value c =
-    (cut-false (c.requires) c.count_paths.ensures c.if-m-gt-PATHS.false c.choose.ensures c.in-Edge.is c.write_left-left.ensures c.if-side.false).0
+    (cut-false (c.requires) c.count_paths.ensures c.if-m-gt-PATHS.false c.choose.ensures c.in-Some.is c.write_left-left.ensures c.if-side.false).0
 
 pub returns-clause-out_after : goal.returns-clause-out_after
 returns-clause-out_after c =
-    (cut-false (c.requires) c.count_paths.ensures c.if-m-gt-PATHS.false c.choose.ensures c.in-Edge.is c.write_left-left.ensures c.if-side.false).1
+    (cut-false (c.requires) c.count_paths.ensures c.if-m-gt-PATHS.false c.choose.ensures c.in-Some.is c.write_left-left.ensures c.if-side.false).1

@@ -5,6 +5,6 @@ pub returns-then-side : goal.returns-then-side
 returns-then-side c =
     place-true _ c.if-side.true
 
-pub returns : goal.returns
-returns c =
+pub returns-else-side : goal.returns-else-side
+returns-else-side c =
     place-false _ c.if-side.false

@@ -9,21 +9,9 @@ pub loop-p-init : goal.loop-p-init
 loop-p-init c =
     (refl, omega arith, sides-none _ _ _ _)
 
-pub side_of-requires-clause-rows : goal.side_of-requires-clause-rows
-side_of-requires-clause-rows c =
-    c.requires.routed.rows
-
-pub side_of-requires-clause-counted : goal.side_of-requires-clause-counted
-side_of-requires-clause-counted c =
-    c.requires.routed.counted
-
 pub side_of-requires-clause-at : goal.side_of-requires-clause-at
 side_of-requires-clause-at c =
     routed-at c.requires.routed c.loop-p-test.true
-
-pub side_of-requires-clause-r_lt_n : goal.side_of-requires-clause-r_lt_n
-side_of-requires-clause-r_lt_n c =
-    c.requires.r_lt_n
 
 pub offset_bounds-sides-p : goal.offset_bounds-sides-p
 offset_bounds-sides-p c =
@@ -32,10 +20,6 @@ offset_bounds-sides-p c =
 pub bounds-sides-p : goal.bounds-sides-p
 bounds-sides-p c =
     omega (arith, c.loop-p-test.true, c.requires.m_in_bounds, c.loop-p.invariant.0)
-
-pub overflow_add-p : goal.overflow_add-p
-overflow_add-p c =
-    omega (arith, routed-small c.requires.routed c.loop-p-test.true)
 
 pub loop-p-preserved : goal.loop-p-preserved
 loop-p-preserved c = (

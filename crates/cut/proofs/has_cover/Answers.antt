@@ -9,14 +9,6 @@ pub target-a-requires-clause-enterable : goal.target-a-requires-clause-enterable
 target-a-requires-clause-enterable c =
     ask-enterable c.requires.asking c.requires.p_lt_m (room-made (first_minimum + most_paths) (lit≤ tt))
 
-pub some_cover-requires-clause-asking : goal.some_cover-requires-clause-asking
-some_cover-requires-clause-asking c =
-    c.requires.asking
-
 pub some_cover-requires-clause-facing : goal.some_cover-requires-clause-facing
 some_cover-requires-clause-facing c =
     face-made (first_minimum + most_paths) (lit≤ tt) c.target-a.ensures
-
-pub some_cover-requires-clause-p_lt_m : goal.some_cover-requires-clause-p_lt_m
-some_cover-requires-clause-p_lt_m c =
-    c.requires.p_lt_m

@@ -9,14 +9,6 @@ pub returns-then-leaves-q : goal.returns-then-leaves-q
 returns-then-leaves-q c =
     cover-low c.requires.asking c.requires.p_lt_m c.requires.q_lt_m _ c.if-sides-q.false c.if-leaves-q.true
 
-pub is_covered-requires-clause-known : goal.is_covered-requires-clause-known
-is_covered-requires-clause-known c =
-    c.requires.asking.known
-
-pub is_covered-requires-clause-held : goal.is_covered-requires-clause-held
-is_covered-requires-clause-held c =
-    c.requires.facing.held
-
 pub is_covered-requires-clause-p_lt_most_paths : goal.is_covered-requires-clause-p_lt_most_paths
 is_covered-requires-clause-p_lt_most_paths c =
     (ask-at c.requires.asking c.requires.p_lt_m).2

@@ -9,14 +9,6 @@ pub returns-then-known-ne0 : goal.returns-then-known-ne0
 returns-then-known-ne0 c =
     pair-no c.requires.known c.requires.p_lt_most_paths c.requires.enterable c.wide-known.ensures c.if-known-eq1.false c.if-known-ne0.true
 
-pub covers-requires-clause-target : goal.covers-requires-clause-target
-covers-requires-clause-target c =
-    c.requires.held.target
-
-pub covers-requires-clause-enterable : goal.covers-requires-clause-enterable
-covers-requires-clause-enterable c =
-    c.requires.enterable
-
 pub returns-then-covers : goal.returns-then-covers
 returns-then-covers c =
     pair-new-yes c.requires.known c.requires.p_lt_most_paths c.requires.enterable (c.covers.ensures.each _ c.requires.held) c.if-covers.true

@@ -1,4 +1,3 @@
-use mathlib.Core.Path.{refl}
 use Rattle.diagram.specs.ListingValid.{listing-is-valid}
 use Rattle.cut.proofs.CallLaws.{plain-is}
 use Rattle.cut.proofs.is_plain.Goals as goal
@@ -6,10 +5,6 @@ use Rattle.cut.proofs.is_plain.Goals as goal
 pub used-requires-clause-valid : goal.used-requires-clause-valid
 used-requires-clause-valid c =
     listing-is-valid _ _ c.requires
-
-pub used-requires-clause-marks_len : goal.used-requires-clause-marks_len
-used-requires-clause-marks_len c =
-    refl
 
 pub returns : goal.returns
 returns c =

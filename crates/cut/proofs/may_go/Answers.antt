@@ -1,8 +1,7 @@
 use mathlib.Core.Path.{refl}
-use mathlib.Core.Bool.{true}
 use native.Mathlib.Omega.{arith}
 use borrow.Author.Rules.{rules}
-use Rattle.cut.proofs.ChoosingLaws.{ask-at, ask-on, edge-child, free-none, free_on, may-zero, may-stop, may-end}
+use Rattle.cut.proofs.ChoosingLaws.{ask-on, edge-child, free-none, free_on, may-zero, may-stop, may-end}
 use Rattle.std.proofs.lemmas.Bool.{not_from_false}
 use Rattle.std.proofs.lemmas.Bool.{not_from_true}
 use Rattle.cut.proofs.may_go.Goals as goal
@@ -23,10 +22,6 @@ pub bounds-words-r : goal.bounds-words-r
 bounds-words-r c =
     omega (arith, c.requires.edged.row, c.requires.asking.charted.routed.rows.room, c.requires.edged.high)
 
-pub is_zero-requires-clause-rows : goal.is_zero-requires-clause-rows
-is_zero-requires-clause-rows c =
-    c.requires.asking.charted.routed.rows
-
 pub is_zero-requires-clause-i_lt_n : goal.is_zero-requires-clause-i_lt_n
 is_zero-requires-clause-i_lt_n c =
     edge-child c.requires.asking c.requires.edged
@@ -43,17 +38,9 @@ pub is_free-requires-clause-asking : goal.is_free-requires-clause-asking
 is_free-requires-clause-asking c =
     ask-on c.requires.asking c.loop-p.invariant.2
 
-pub is_free-requires-clause-p_lt_m : goal.is_free-requires-clause-p_lt_m
-is_free-requires-clause-p_lt_m c =
-    c.loop-p-test.true
-
 pub returns-then-not-is_free : goal.returns-then-not-is_free
 returns-then-not-is_free c =
     may-stop c.requires.asking c.requires.edged c.is_zero.ensures c.if-is_zero.false c.loop-p-test.true c.is_free.ensures (not_from_false _ c.if-not-is_free.true)
-
-pub overflow_add-p : goal.overflow_add-p
-overflow_add-p c =
-    omega (arith, (ask-at c.requires.asking c.loop-p-test.true).2)
 
 pub loop-p-preserved : goal.loop-p-preserved
 loop-p-preserved c =

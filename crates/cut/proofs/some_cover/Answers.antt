@@ -1,7 +1,6 @@
 use mathlib.Core.Path.{refl, ◌∙◌}
-use mathlib.Core.Bool.{false}
 use native.Mathlib.Omega.{arith}
-use Rattle.cut.proofs.ChoosingLaws.{ask-at, ask-on, face-on, cover-none, cover-hit, cover_on, cover-end}
+use Rattle.cut.proofs.ChoosingLaws.{ask-on, face-on, cover-none, cover-hit, cover_on, cover-end}
 use Rattle.cut.proofs.some_cover.Goals as goal
 
 pub loop-q-init : goal.loop-q-init
@@ -16,25 +15,9 @@ pub is_cover-requires-clause-facing : goal.is_cover-requires-clause-facing
 is_cover-requires-clause-facing c =
     face-on c.requires.facing c.loop-q.invariant.1
 
-pub is_cover-requires-clause-p_lt_m : goal.is_cover-requires-clause-p_lt_m
-is_cover-requires-clause-p_lt_m c =
-    c.requires.p_lt_m
-
-pub is_cover-requires-clause-q_lt_m : goal.is_cover-requires-clause-q_lt_m
-is_cover-requires-clause-q_lt_m c =
-    c.loop-q-test.true
-
 pub returns-then-is_cover : goal.returns-then-is_cover
 returns-then-is_cover c =
     cover-hit _ _ _ _ _ _ c.loop-q-test.true c.is_cover.ensures c.if-is_cover.true
-
-pub overflow_add-q : goal.overflow_add-q
-overflow_add-q c =
-    omega (arith, (ask-at c.requires.asking c.loop-q-test.true).2)
-
-pub loop-q-smaller : goal.loop-q-smaller
-loop-q-smaller c =
-    omega (arith, c.loop-q-test.true)
 
 pub loop-q-preserved : goal.loop-q-preserved
 loop-q-preserved c = (

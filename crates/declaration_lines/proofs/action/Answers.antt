@@ -15,12 +15,12 @@ pub add_action-head-requires : goal.add_action-head-requires
 add_action-head-requires c =
     search action-fits
 
-pub returns-in-Done : goal.returns-in-Done
-returns-in-Done c =
+pub returns-in-Ok : goal.returns-in-Ok
+returns-in-Ok c =
     action-done _ _ c.first_word.ensures c.next_event-next.ensures
-    c.key_in-key.ensures c.action.ensures c.in-Done.is
+    c.key_in-key.ensures c.action.ensures c.in-Ok.is
     c.add_action-head.ensures c.with_tables.ensures
 
-pub returns-in-Refused : goal.returns-in-Refused
-returns-in-Refused c =
+pub returns-in-Err : goal.returns-in-Err
+returns-in-Err c =
     search action-refused

@@ -1,10 +1,10 @@
 use Rattle.declaration_lines.proofs.SaysLaws.{constant-done, constant-refused}
 use Rattle.declaration_lines.proofs.constant.Goals as goal
 
-pub returns-in-Done : goal.returns-in-Done
-returns-in-Done c =
+pub returns-in-Ok : goal.returns-in-Ok
+returns-in-Ok c =
     search constant-done
 
-pub returns-in-Refused : goal.returns-in-Refused
-returns-in-Refused c =
+pub returns-in-Err : goal.returns-in-Err
+returns-in-Err c =
     search constant-refused

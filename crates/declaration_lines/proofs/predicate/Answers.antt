@@ -7,12 +7,12 @@ pub next_event-second-requires : goal.next_event-second-requires
 next_event-second-requires c =
     search (second-in Predicate)
 
-pub returns-in-Done : goal.returns-in-Done
-returns-in-Done c =
+pub returns-in-Ok : goal.returns-in-Ok
+returns-in-Ok c =
     predicate-done _ _ c.first_word.ensures c.next_event-first.ensures
     c.key_in-key.ensures c.next_event-second.ensures c.number_in-arity.ensures
-    c.predicate.ensures c.in-Done.is c.with_tables.ensures
+    c.predicate.ensures c.in-Ok.is c.with_tables.ensures
 
-pub returns-in-Refused : goal.returns-in-Refused
-returns-in-Refused c =
+pub returns-in-Err : goal.returns-in-Err
+returns-in-Err c =
     search predicate-refused

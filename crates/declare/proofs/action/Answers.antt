@@ -1,3 +1,8 @@
+use native.Mathlib.Omega.{arith}
+use mathlib.Core.Path.{◌≡◌}
+use Rattle.std.specs.Prelude.{None, Some}
+use Rattle.std.proofs.lemmas.Result.{err_from_is_err_and}
+use Rattle.refusal.specs.declared.Refusal.TheVariants.{Name}
 use Rattle.declare.proofs.ParameterLaws.{action-name, action-twice, action-parameters, action-many, action-room, action-done, put-room, names-sum}
 use Rattle.declare.proofs.action.Goals as goal
 
@@ -5,22 +10,27 @@ pub returns-then-find-n : goal.returns-then-find-n
 returns-then-find-n c =
     search action-name
 
-pub returns-in_default : goal.returns-in_default
-returns-in_default c =
-    search action-twice
+pub returns-in_err-count : goal.returns-in_err-count
+returns-in_err-count c =
+    let n : c.read_parameters.result ≡ None = grind arith in
+    let w : c.in_err-count.field-0.0 ≡ Name = grind arith in
+    let p = err_from_is_err_and c.from_residual.result c.from_residual.ensures.1 in
+    rw (p.1, p.2, w) (search action-twice)
 
 pub returns-then-count : goal.returns-then-count
 returns-then-count c =
+    let n : c.read_parameters.result ≡ Some c.in_ok-count.count = grind arith in
     search action-parameters
 
 pub returns-then-n-ge-ACTIONS : goal.returns-then-n-ge-ACTIONS
 returns-then-n-ge-ACTIONS c =
+    let n : c.read_parameters.result ≡ Some c.in_ok-count.count = grind arith in
     search action-many
 
 pub copy_parameters-requires-clause-n_in_bounds : goal.copy_parameters-requires-clause-n_in_bounds
 copy_parameters-requires-clause-n_in_bounds c =
-    action-room _ c.args.n _ _ c.find.ensures c.if-find-n.false
-    c.in-Distinct.is c.read_parameters.ensures
+    let n : c.read_parameters.result ≡ Some c.in_ok-count.count = grind arith in
+    action-room _ c.args.n _ _ c.find.ensures c.if-find-n.false n c.read_parameters.ensures
 
 pub copy_parameters-requires-clause-name_words_in_bounds : goal.copy_parameters-requires-clause-name_words_in_bounds
 copy_parameters-requires-clause-name_words_in_bounds c =
@@ -28,7 +38,8 @@ copy_parameters-requires-clause-name_words_in_bounds c =
 
 pub returns : goal.returns
 returns c =
-    action-done _ _ _ _ c.find.ensures c.if-find-n.false c.in-Distinct.is
+    let n : c.read_parameters.result ≡ Some c.in_ok-count.count = grind arith in
+    action-done _ _ _ _ c.find.ensures c.if-find-n.false n
     c.read_parameters.ensures c.requires.good_names
     c.if-count.false c.if-n-ge-ACTIONS.false c.put.ensures
     c.copy_parameters.ensures

@@ -1,14 +1,10 @@
-use Rattle.declare.proofs.TableLaws.{declared-constant, declared-predicate, declared-none}
+use Rattle.declare.proofs.TableLaws.{declared-constant, declared-predicate}
 use Rattle.declare.proofs.is_declared.Goals as goal
 
-pub returns-then-i-n : goal.returns-then-i-n
-returns-then-i-n c =
-    search declared-constant
+pub returns-then-find-n : goal.returns-then-find-n
+returns-then-find-n c =
+    declared-constant _ _ _ c.find.ensures c.if-find-n.true
 
-pub returns-then-j-n : goal.returns-then-j-n
-returns-then-j-n c =
-    search declared-predicate
-
-pub returns : goal.returns
-returns c =
-    search declared-none
+pub returns-else-find-n : goal.returns-else-find-n
+returns-else-find-n c =
+    declared-predicate _ _ _ c.find.ensures c.find-else-find-n.ensures c.if-find-n.false

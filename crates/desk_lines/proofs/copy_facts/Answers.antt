@@ -1,18 +1,13 @@
-use Rattle.model_entry.specs.WordLaws.{copy_start, copy-room, copy-on, copy-end}
+use Prim.Native.Nat.{◌+◌, ◌-◌}
+use mathlib.Core.Path.{◌≡◌, sym}
+use native.Mathlib.Omega.{arith}
+use lib.ListN.{take, drop}
+use lib.Seq.{drop-drop}
+use Rattle.std.proofs.Common.{append_assoc}
 use Rattle.desk_lines.proofs.copy_facts.Goals as goal
-
-pub loop-i-init : goal.loop-i-init
-loop-i-init c =
-    search copy_start
-
-pub bounds-state-i : goal.bounds-state-i
-bounds-state-i c =
-    search copy-room
-
-pub loop-i-preserved : goal.loop-i-preserved
-loop-i-preserved c =
-    search copy-on
 
 pub returns : goal.returns
 returns c =
-    search copy-end
+    let k : 32 + c.args.words - 32 ≡ c.args.words = omega arith in
+    rw (k, c.copy_from_slice.ensures.after, drop-drop c.args.words 32 c.args.state.now)
+    (sym (append_assoc (take 32 c.args.state.now) (take c.args.words c.args.rows.now) (drop (32 + c.args.words) c.args.state.now)))

@@ -13,10 +13,10 @@ pub spread-lines-requires : goal.spread-lines-requires
 spread-lines-requires c =
     search spreadable
 
-pub returns-in-Lines : goal.returns-in-Lines
-returns-in-Lines c =
+pub returns-in-Ok : goal.returns-in-Ok
+returns-in-Ok c =
     search count-lines
 
-pub returns-in-Refused : goal.returns-in-Refused
-returns-in-Refused c =
+pub returns-in-Err : goal.returns-in-Err
+returns-in-Err c =
     search count-refused

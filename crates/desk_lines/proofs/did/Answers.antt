@@ -19,12 +19,12 @@ pub carry_out-requires-clause-log_task : goal.carry_out-requires-clause-log_task
 carry_out-requires-clause-log_task c =
     c.requires.log
 
-pub returns-in-Done : goal.returns-in-Done
-returns-in-Done c =
+pub returns-in-Ok : goal.returns-in-Ok
+returns-in-Ok c =
     did-done _ _ _ _ _ _ _ c.first_word.ensures c.next_event-first.ensures c.key_in-action.ensures c.next_event-second.ensures
-    c.key_in-variant.ensures c.carry_out.ensures c.in-Done.is c.moved.ensures
+    c.key_in-variant.ensures c.carry_out.ensures c.in-Ok.is c.moved.ensures
 
-pub returns-in-Refused : goal.returns-in-Refused
-returns-in-Refused c =
+pub returns-in-Err : goal.returns-in-Err
+returns-in-Err c =
     did-refused _ _ _ _ _ _ _ c.first_word.ensures c.next_event-first.ensures c.key_in-action.ensures c.next_event-second.ensures
-    c.key_in-variant.ensures c.carry_out.ensures c.in-Refused.is
+    c.key_in-variant.ensures c.carry_out.ensures c.in-Err.is

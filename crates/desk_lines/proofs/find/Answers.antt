@@ -1,8 +1,8 @@
 use Rattle.desk_lines.proofs.FindLaws.{find-name, find-count, find-variant, find-range, find-done}
 use Rattle.desk_lines.proofs.find.Goals as goal
 
-pub returns-then-a-actions : goal.returns-then-a-actions
-returns-then-a-actions c =
+pub returns-then-a-n : goal.returns-then-a-n
+returns-then-a-n c =
     search find-name
 
 pub returns-then-objects-table : goal.returns-then-objects-table

@@ -1,6 +1,7 @@
 use Rattle.diagram_lines.proofs.TruthLaws.{becomes-arity, becomes-known, read-refused, read-drawable, read-drawn}
 use borrow.Author.Rules.{rules}
 use Rattle.diagram_lines.proofs.LineLaws.{line-begins}
+use Rattle.std.proofs.lemmas.Result.{err_from_is_err_and}
 use Rattle.diagram_lines.proofs.read_truth.Goals as goal
 
 pub bounds-arities-p : goal.bounds-arities-p
@@ -9,22 +10,23 @@ bounds-arities-p c =
 
 pub draw_truth-requires-clause-drawable : goal.draw_truth-requires-clause-drawable
 draw_truth-requires-clause-drawable c =
-    read-drawable c.requires.lent _ c.first_word-first.ensures c.head_arguments-headed.ensures c.in-Arguments.is (search rules) c.requires.result_words_in_bounds
+    read-drawable c.requires.lent _ c.first_word-first.ensures c.head_arguments.ensures c.in_ok-at.was (search rules) c.requires.result_words_in_bounds
 
 pub draw_truth-requires-clause-words_le_listing_words : goal.draw_truth-requires-clause-words_le_listing_words
 draw_truth-requires-clause-words_le_listing_words c =
     c.requires.lent.used
 
-pub returns-in-Refused : goal.returns-in-Refused
-returns-in-Refused c =
-    read-refused c.requires.lent _ c.first_word-first.ensures c.head_arguments-headed.ensures c.in-Refused.is
+pub returns-in_err-at : goal.returns-in_err-at
+returns-in_err-at c =
+    let p = err_from_is_err_and c.from_residual.result c.from_residual.ensures.1 in
+    rw (p.1, p.2) (read-refused c.requires.lent _ c.first_word-first.ensures c.head_arguments.ensures c.in_err-at.was)
 
-pub returns-in-Arguments : goal.returns-in-Arguments
-returns-in-Arguments c =
-    read-drawn c.requires.lent _ c.first_word-first.ensures c.head_arguments-headed.ensures c.in-Arguments.is
+pub returns : goal.returns
+returns c =
+    read-drawn c.requires.lent _ c.first_word-first.ensures c.head_arguments.ensures c.in_ok-at.was
     c.draw_truth.ensures
 
-pub head_arguments-headed-requires : goal.head_arguments-headed-requires
-head_arguments-headed-requires c =
+pub head_arguments-requires : goal.head_arguments-requires
+head_arguments-requires c =
     let h = becomes-arity c.requires.lent c.args.p in
     record { at_in_bounds = line-begins c.requires.lent.line c.first_word-first.ensures; arity_in_bounds = search rules }

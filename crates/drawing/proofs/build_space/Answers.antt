@@ -4,4 +4,4 @@ use Rattle.drawing.proofs.build_space.Goals as goal
 
 pub returns : goal.returns
 returns c =
-    few-suffice (sym c.is_crowded.ensures ∙ c.if-is_crowded.false) c.build_few-r.ensures
+    few-suffice (sym c.is_crowded.ensures ∙ c.if-is_crowded.false) c.build_with-r.ensures

@@ -1,4 +1,4 @@
-use Rattle.drawing.proofs.BuiltLaws.{row-writable, row-many, row-few}
+use Rattle.drawing.proofs.BuiltLaws.{row-writable, row-told}
 use lib.Dec.{lit≤}
 use Rattle.drawing.proofs.write_row.Goals as goal
 
@@ -6,10 +6,6 @@ pub write-requires : goal.write-requires
 write-requires c =
     row-writable c.requires 2048 2048 (lit≤ tt) (lit≤ tt)
 
-pub returns-in_default : goal.returns-in_default
-returns-in_default c =
-    search row-many
-
 pub returns : goal.returns
 returns c =
-    search row-few
+    row-told c.write.ensures c.ok_or.ensures.value

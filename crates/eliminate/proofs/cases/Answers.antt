@@ -1,4 +1,5 @@
 use Rattle.eliminate.proofs.SetLaws.{case-start, case-on}
+use native.Mathlib.Omega.{arith}
 use Rattle.eliminate.proofs.cases.Goals as goal
 
 pub loop-c-init : goal.loop-c-init
@@ -7,4 +8,4 @@ loop-c-init c =
 
 pub loop-c-preserved : goal.loop-c-preserved
 loop-c-preserved c =
-    case-on c.loop-c.invariant _ c.loop-c-test.true c.decode.ensures c.truth.ensures c.counted-count.ensures
+    case-on c.loop-c.invariant _ c.loop-c-test.true c.decode.ensures c.truth.ensures (grind arith)

@@ -16,12 +16,12 @@ branch_table-requires c =
 
 pub overflow_add-result-2 : goal.overflow_add-result-2
 overflow_add-result-2 c =
-    omega (arith, work-sums c.requires _ c.branch_table.ensures c.in-Table.is)
+    omega (arith, work-sums c.requires _ c.branch_table.ensures c.in_ok-kept.was)
 
 pub overflow_add-result-3 : goal.overflow_add-result-3
 overflow_add-result-3 c =
-    omega (arith, work-sums c.requires _ c.branch_table.ensures c.in-Table.is)
+    omega (arith, work-sums c.requires _ c.branch_table.ensures c.in_ok-kept.was)
 
 pub returns : goal.returns
 returns c =
-    work-table c.requires _ c.branch_table.ensures c.in-Table.is c.branch_table.auto.space c.branch_table.auto.env
+    work-table c.requires _ c.branch_table.ensures c.in_ok-kept.was c.branch_table.auto.space c.branch_table.auto.env

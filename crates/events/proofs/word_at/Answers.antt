@@ -5,15 +5,14 @@ use lib.ListN.{length, length-drop}
 use lib.Seq.{length-take-le}
 use Rattle.words.specs.Bytes.{is_name_byte}
 use Rattle.words.specs.ByteLaws.{run-le}
-use Rattle.events.proofs.FrontCode.{word-long, word-short}
 use Rattle.events.proofs.word_at.Goals as goal
 
 -- the name lies within the bytes
 room : (c : goal.Else-n-gt15) → c.name_run-n.result ≤ length c.rest-t.result.now
 room c = omega (arith, c.name_run-n.ensures, run-le is_name_byte c.rest-t.result.now)
 
-pub overflow_add-j : goal.overflow_add-j
-overflow_add-j c =
+pub overflow_add-i : goal.overflow_add-i
+overflow_add-i c =
     omega (
       arith,
       c.name_run-n.ensures,
@@ -23,18 +22,10 @@ overflow_add-j c =
       c.well_formed,
     )
 
-pub returns-then-n-gt15 : goal.returns-then-n-gt15
-returns-then-n-gt15 c =
-    search word-long
-
 pub slice_bounds-key_of-end : goal.slice_bounds-key_of-end
 slice_bounds-key_of-end c =
     sym (length-take-le _ _ (room c))
 
-pub key_of-key-requires : goal.key_of-key-requires
-key_of-key-requires c =
+pub key_of-requires : goal.key_of-requires
+key_of-requires c =
     omega (arith, c.if-n-gt15.false, length-take-le c.name_run-n.result c.rest-t.result.now (room c))
-
-pub returns : goal.returns
-returns c =
-    search word-short

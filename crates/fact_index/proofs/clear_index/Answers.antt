@@ -1,15 +1,13 @@
-use borrow.Author.Rules.{rules}
-use lib.ListN.{length-set}
 use Rattle.fact_index.proofs.FactLaws.{cleaning-start, cleaning-on, cleaning-done}
 use Rattle.fact_index.proofs.clear_index.Goals as goal
 
 pub loop-i-init : goal.loop-i-init
 loop-i-init c =
-    (search rules, search cleaning-start)
+    search cleaning-start
 
 pub loop-i-preserved : goal.loop-i-preserved
 loop-i-preserved c =
-    (simp length-set c.loop-i.invariant.0, search cleaning-on)
+    search cleaning-on
 
 pub returns : goal.returns
 returns c =

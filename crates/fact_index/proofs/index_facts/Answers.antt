@@ -1,12 +1,10 @@
-use borrow.Author.Rules.{rules}
-use lib.ListN.{length-set}
 use Rattle.fact_index.specs.IndexLaws.{clean-indexed}
 use Rattle.fact_index.proofs.FactLaws.{index_on, index-full, index-done}
 use Rattle.fact_index.proofs.index_facts.Goals as goal
 
 pub loop-i-init : goal.loop-i-init
 loop-i-init c =
-    (search rules, search rules, search clean-indexed)
+    search clean-indexed
 
 pub returns-then-i-index : goal.returns-then-i-index
 returns-then-i-index c =
@@ -14,7 +12,7 @@ returns-then-i-index c =
 
 pub loop-i-preserved : goal.loop-i-preserved
 loop-i-preserved c =
-    (simp (length-set, length-set) c.loop-i.invariant.0, search rules, search index_on)
+    search index_on
 
 pub returns : goal.returns
 returns c =

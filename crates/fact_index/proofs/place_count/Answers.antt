@@ -1,15 +1,15 @@
-use Rattle.fact_index.proofs.FactLaws.{count_none, count-few, count-all}
-use borrow.Author.Rules.{rules}
+use native.Mathlib.Omega.{arith}
+use Rattle.std.proofs.lemmas.Grind.{common_steps}
+use Rattle.std.proofs.lemmas.Option.{gets}
+use Rattle.fact_index.specs.Inner.{place_count}
 use Rattle.fact_index.proofs.place_count.Goals as goal
 
-pub returns-then-i-arities : goal.returns-then-i-arities
-returns-then-i-arities c =
-    (search count_none, search rules)
+pub returns-in-Some : goal.returns-in-Some
+unfolding place_count
+returns-in-Some c =
+    (grind (arith, common_steps, gets, c.in-Some.ensures.lookup), omega arith)
 
-pub returns-then-arities-i-lt-PLACES : goal.returns-then-arities-i-lt-PLACES
-returns-then-arities-i-lt-PLACES c =
-    (search count-few, search rules)
-
-pub returns : goal.returns
-returns c =
-    (search count-all, search rules)
+pub returns-in-None : goal.returns-in-None
+unfolding place_count
+returns-in-None c =
+    (grind (arith, common_steps, gets, c.in-None.ensures.lookup), omega arith)

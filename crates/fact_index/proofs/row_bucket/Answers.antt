@@ -5,11 +5,11 @@ use Rattle.fact_index.proofs.row_bucket.Goals as goal
 
 pub loop-j-init : goal.loop-j-init
 loop-j-init c =
-    (search rules, search hashing-start)
+    search hashing-start
 
 pub loop-j-preserved : goal.loop-j-preserved
 loop-j-preserved c =
-    (search rules, search row_on)
+    search row_on
 
 pub returns : goal.returns
 returns c =

@@ -1,19 +1,21 @@
-use borrow.Author.Rules.{rules}
-use Rattle.facts.proofs.StateLaws.{clear-begin, clear_next, room-kept, clear-end}
+use native.Mathlib.Omega.{arith}
+use mathlib.Core.Path.{◌≡◌, refl, sym, ◌∙◌}
+use lib.ListN.{length, length-append, length-drop, get_or-append}
+use lib.Seq.{length-take-le}
+use Rattle.std.proofs.lemmas.Slice.{drop-append-drop}
+use Rattle.facts.specs.Words.{facts_base}
 use Rattle.facts.proofs.clear.Goals as goal
 
-pub loop-i-init : goal.loop-i-init
-loop-i-init c =
-    (clear-begin _, search rules)
-
-pub bounds-state-i : goal.bounds-state-i
-bounds-state-i c =
-    search room-kept
-
-pub loop-i-preserved : goal.loop-i-preserved
-loop-i-preserved c =
-    (search clear_next, search rules)
+pub slice_bounds-fill-end-2 : goal.slice_bounds-fill-end-2
+slice_bounds-fill-end-2 c =
+    sym (length-take-le facts_base c.args.state.now (omega arith))
 
 pub returns : goal.returns
 returns c =
-    search clear-end
+    let long : length c.fill.new.self ≡ facts_base = c.fill.ensures.len ∙ length-take-le facts_base c.args.state.now (omega arith) in record {
+      cleared = record {
+        size = rw (length-append, length-drop) (omega arith);
+        zeros = λ i h. get_or-append c.fill.new.self _ 0 i (omega arith) ∙ c.fill.ensures.clones i 0 (omega arith) refl;
+      };
+      rest = drop-append-drop facts_base c.args.state.now c.fill.new.self facts_base (omega arith) long;
+    }

@@ -2,15 +2,15 @@ use native.Mathlib.Omega.{arith}
 use Rattle.forms.specs.FormLaws.{atom-within, after-refused, form-refused, form-took, form-rest}
 use Rattle.forms.proofs.atom_after.Goals as goal
 
-pub returns-in_default : goal.returns-in_default
-returns-in_default c = search after-refused
+pub returns-in_err-i : goal.returns-in_err-i
+returns-in_err-i c = rw c.from_residual.ensures (search (after-refused, c.in_err-i.was))
 
-pub returns-in_default-read_atom : goal.returns-in_default-read_atom
-returns-in_default-read_atom c = search form-refused
+pub returns-in_err-n : goal.returns-in_err-n
+returns-in_err-n c = rw c.from_residual-in_err-n.ensures (search (form-refused, c.in_ok-i.was, c.in_err-n.was))
 
-pub overflow_add-j : goal.overflow_add-j
-overflow_add-j c =
-    omega (arith, form-rest c.args.s.now c.in-Bytes.i _ atom-within c.rest.ensures c.read_atom.ensures c.in-Bytes-read_atom.is)
+pub overflow_add-result : goal.overflow_add-result
+overflow_add-result c =
+    omega (arith, form-rest c.args.s.now c.in_ok-i.i _ atom-within c.rest.ensures c.read_atom.ensures c.in_ok-n.was)
 
 pub returns : goal.returns
-returns c = search form-took
+returns c = search (form-took, c.in_ok-i.was, c.in_ok-n.was)

@@ -8,19 +8,18 @@ use Rattle.forms.proofs.items_after.Goals.{After-read_items}
 -- what the words' reader answered, by one bound for all bytes
 told : (c : After-read_items)
     → c.read_items.result ≡ many_form (item_form c.args.sort) (length c.args.s.now + 1) c.rest.result.now
-told c = c.read_items.ensures _ (rest-less c.args.s.now c.in-Bytes.i c.rest.ensures)
+told c = c.read_items.ensures _ (rest-less c.args.s.now c.in_ok-i.i c.rest.ensures)
 
-pub returns-in_default : goal.returns-in_default
-returns-in_default c = search after-refused
+pub returns-in_err-i : goal.returns-in_err-i
+returns-in_err-i c = rw c.from_residual.ensures (search (after-refused, c.in_err-i.was))
 
-pub returns-in_default-read_items : goal.returns-in_default-read_items
-returns-in_default-read_items c =
-    let e = told (goal.at.returns-in_default-read_items c).After-read_items in search form-refused
+pub returns-in_err-n : goal.returns-in_err-n
+returns-in_err-n c = rw c.from_residual-in_err-n.ensures (let e = told (goal.at.returns-in_err-n c).After-read_items in search (form-refused, c.in_ok-i.was, c.in_err-n.was))
 
-pub overflow_add-j : goal.overflow_add-j
-overflow_add-j c =
-    let e = told (goal.at.overflow_add-j c).After-read_items in
-    omega (arith, form-rest c.args.s.now c.in-Bytes.i _ (many-within _ (item-within _) _) c.rest.ensures e c.in-Bytes-read_items.is)
+pub overflow_add-result : goal.overflow_add-result
+overflow_add-result c =
+    let e = told (goal.at.overflow_add-result c).After-read_items in
+    omega (arith, form-rest c.args.s.now c.in_ok-i.i _ (many-within _ (item-within _) _) c.rest.ensures e c.in_ok-n.was)
 
 pub returns : goal.returns
-returns c = let e = told (goal.at.returns c).After-read_items in search form-took
+returns c = let e = told (goal.at.returns c).After-read_items in search (form-took, c.in_ok-i.was, c.in_ok-n.was)

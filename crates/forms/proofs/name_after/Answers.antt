@@ -3,18 +3,16 @@ use Rattle.words.specs.WordLaws.{name-within}
 use Rattle.forms.specs.FormLaws.{after-refused, form-refused, form-took, form-rest}
 use Rattle.forms.proofs.name_after.Goals as goal
 
-pub returns-in_default : goal.returns-in_default
-returns-in_default c =
-    search after-refused
+pub returns-in_err-i : goal.returns-in_err-i
+returns-in_err-i c = rw c.from_residual.ensures (search (after-refused, c.in_err-i.was))
 
-pub returns-in_default-read_name : goal.returns-in_default-read_name
-returns-in_default-read_name c =
-    search form-refused
+pub returns-in_err-n : goal.returns-in_err-n
+returns-in_err-n c = rw c.from_residual-in_err-n.ensures (search (form-refused, c.in_ok-i.was, c.in_err-n.was))
 
-pub overflow_add-j : goal.overflow_add-j
-overflow_add-j c =
-    omega (arith, form-rest c.args.s.now c.in-Bytes.i _ name-within c.rest.ensures c.read_name.ensures c.in-Bytes-read_name.is)
+pub overflow_add-result : goal.overflow_add-result
+overflow_add-result c =
+    omega (arith, form-rest c.args.s.now c.in_ok-i.i _ name-within c.rest.ensures c.read_name.ensures c.in_ok-n.was)
 
 pub returns : goal.returns
 returns c =
-    search form-took
+    search (form-took, c.in_ok-i.was, c.in_ok-n.was)

@@ -3,18 +3,18 @@ use Rattle.forms.specs.FormLaws.{inner-within, after-refused, form-refused, form
 use Rattle.forms.specs.Form.{atom_form}
 use Rattle.forms.proofs.read_atom.Goals as goal
 
-pub returns-in_default : goal.returns-in_default
+pub returns-in_err-i : goal.returns-in_err-i
 unfolding atom_form
-returns-in_default c = search after-refused
+returns-in_err-i c = rw c.from_residual.ensures (search (after-refused, c.in_err-i.was))
 
-pub returns-in_default-read_inner : goal.returns-in_default-read_inner
+pub returns-in_err-n : goal.returns-in_err-n
 unfolding atom_form
-returns-in_default-read_inner c = search form-refused
+returns-in_err-n c = rw c.from_residual-in_err-n.ensures (search (form-refused, c.in_ok-i.was, c.in_err-n.was))
 
-pub overflow_add-j : goal.overflow_add-j
-overflow_add-j c =
-    omega (arith, form-rest c.args.s.now c.in-Bytes.i _ inner-within c.rest.ensures c.read_inner.ensures c.in-Bytes-read_inner.is)
+pub overflow_add-result : goal.overflow_add-result
+overflow_add-result c =
+    omega (arith, form-rest c.args.s.now c.in_ok-i.i _ inner-within c.rest.ensures c.read_inner.ensures c.in_ok-n.was)
 
 pub returns : goal.returns
 unfolding atom_form
-returns c = search form-took
+returns c = search (form-took, c.in_ok-i.was, c.in_ok-n.was)

@@ -1,10 +1,12 @@
-use Rattle.freeing.specs.MarkLaws.{passed-some, passed_none}
+use Rattle.std.proofs.Common.{◌≡◌, ℕ, ◌+◌, ◌-◌, not, eqb, take, drop, ◌∙◌, rules, tests, arith}
+use Rattle.std.proofs.lemmas.Iterator.{YieldsList-from_slice}
+use Rattle.std.proofs.lemmas.Iterator.Search.{any_from_yields_List}
+use Rattle.freeing.specs.MarkLaws.{any_listed}
 use Rattle.freeing.proofs.any_set.Goals as goal
-
-pub returns-then-marks-first-ne0 : goal.returns-then-marks-first-ne0
-returns-then-marks-first-ne0 c =
-    search passed-some
 
 pub returns : goal.returns
 returns c =
-    search passed_none
+    let e : c.args.first + c.args.n - c.args.first ≡ c.args.n = omega arith in
+    let xs = take c.args.n (drop c.args.first c.args.marks.now) in
+    any_from_yields_List (λ (x : ℕ). not (eqb x 0)) _ _ c.any.result c.any.ensures.ran (YieldsList-from_slice xs cc) (λ x b q k. search (rules, tests))
+    ∙ any_listed c.args.marks.now c.args.first c.args.n c.requires

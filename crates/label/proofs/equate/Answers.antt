@@ -9,6 +9,6 @@ pub returns-then-t-u-2 : goal.returns-then-t-u-2
 returns-then-t-u-2 c =
     search equate-less
 
-pub returns : goal.returns
-returns c =
+pub returns-else-t-u-2 : goal.returns-else-t-u-2
+returns-else-t-u-2 c =
     search equate-more

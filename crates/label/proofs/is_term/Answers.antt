@@ -1,15 +1,19 @@
-use Rattle.label.proofs.LabelLaws.{term-gap, term-high}
-use Rattle.label.proofs.CodeLaws.{term-low}
+use native.Mathlib.Omega.{arith}
+use Rattle.std.proofs.lemmas.Bool.Decides.{nat_tests}
+use Rattle.label.specs.Terms.{is_term, is_constant, is_parameter, is_variable, is_minimum}
 use Rattle.label.proofs.is_term.Goals as goal
 
 pub returns-then-t : goal.returns-then-t
+unfolding is_term is_constant is_parameter is_variable is_minimum
 returns-then-t c =
-    search term-low
+    grind (arith, nat_tests)
 
-pub returns-then-t-lt-FIRST_VARIABLE : goal.returns-then-t-lt-FIRST_VARIABLE
-returns-then-t-lt-FIRST_VARIABLE c =
-    search term-gap
+pub returns-then-t-ge-FIRST_VARIABLE : goal.returns-then-t-ge-FIRST_VARIABLE
+unfolding is_term is_constant is_parameter is_variable is_minimum
+returns-then-t-ge-FIRST_VARIABLE c =
+    grind (arith, nat_tests)
 
-pub returns : goal.returns
-returns c =
-    search term-high
+pub returns-else-t-ge-FIRST_VARIABLE : goal.returns-else-t-ge-FIRST_VARIABLE
+unfolding is_term is_constant is_parameter is_variable is_minimum
+returns-else-t-ge-FIRST_VARIABLE c =
+    grind (arith, nat_tests)

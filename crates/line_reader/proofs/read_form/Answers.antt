@@ -7,13 +7,13 @@ use lib.Seq.{length-take-le}
 use Rattle.words.specs.WordLaws.{name-within, name-inv}
 use Rattle.line_reader.proofs.LineCode.{form-none, form-refused, form-whole, form-rest}
 use Rattle.line_reader.proofs.read_form.Goals as goal
-use Rattle.line_reader.proofs.read_form.Goals.{In-Bytes}
+use Rattle.line_reader.proofs.read_form.Goals.{In-Some}
 
 -- the key word lies within the bytes, and has at most 15
-room : (c : In-Bytes)
-    → (c.in-Bytes.n ≤ length c.args.s.now) × (c.in-Bytes.n ≤ 15)
+room : (c : In-Some)
+    → (c.in-Some.n ≤ length c.args.s.now) × (c.in-Some.n ≤ 15)
 room c =
-    let e = sym c.read_name.ensures ∙ c.in-Bytes.is in
+    let e = sym c.read_name.ensures ∙ c.in-Some.is in
     (name-within _ _ e, (name-inv _ e).2)
 
 pub returns-in_default : goal.returns-in_default
@@ -26,10 +26,10 @@ slice_bounds-key_of-end c =
 
 pub key_of-requires : goal.key_of-requires
 key_of-requires c =
-    omega (arith, room c, length-take-le c.in-Bytes.n c.args.s.now (room c).0)
+    omega (arith, room c, length-take-le c.in-Some.n c.args.s.now (room c).0)
 
-pub overflow_sub-left : goal.overflow_sub-left
-overflow_sub-left c =
+pub overflow_sub-s : goal.overflow_sub-s
+overflow_sub-s c =
     search (rules, name-within, name-inv, form-none, form-refused, form-whole, form-rest)
 
 pub slice_bounds-read_shape-count : goal.slice_bounds-read_shape-count
@@ -44,10 +44,10 @@ pub returns-in_default-read_shape : goal.returns-in_default-read_shape
 returns-in_default-read_shape c =
     search form-refused
 
-pub returns-then-m-left : goal.returns-then-m-left
-returns-then-m-left c =
+pub returns-then-m-s : goal.returns-then-m-s
+returns-then-m-s c =
     search form-whole
 
-pub returns-else-m-left : goal.returns-else-m-left
-returns-else-m-left c =
+pub returns-else-m-s : goal.returns-else-m-s
+returns-else-m-s c =
     search form-rest

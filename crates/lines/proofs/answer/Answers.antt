@@ -12,18 +12,18 @@ allowed-requires c =
 pub perform-requires-clause-ready : goal.perform-requires-clause-ready
 perform-requires-clause-ready c =
     answer-ready c.requires.kept c.rule_of-rule.ensures c.allowed.ensures
-    c.read_line-kind.ensures.exact c.in-Done.is
+    c.read_line-kind.ensures.exact c.in-Ok.is
 
 pub perform-requires-clause-work_words_in_bounds : goal.perform-requires-clause-work_words_in_bounds
 perform-requires-clause-work_words_in_bounds c =
     c.requires.work_words_in_bounds
 
-pub returns-in-Done : goal.returns-in-Done
-returns-in-Done c =
+pub returns-in-Ok : goal.returns-in-Ok
+returns-in-Ok c =
     answer-done c.requires.kept c.rule_of-rule.ensures c.allowed.ensures c.if-line-eq0.false c.read_line-kind.ensures.form
-    c.in-Done.is c.perform.ensures
+    c.in-Ok.is c.perform.ensures
 
-pub returns-in-Refused : goal.returns-in-Refused
-returns-in-Refused c =
+pub returns-in-Err : goal.returns-in-Err
+returns-in-Err c =
     answer-refused c.requires.kept c.rule_of-rule.ensures c.allowed.ensures _ _ c.if-line-eq0.false c.read_line-kind.ensures.form
-    c.in-Refused.is
+    c.in-Err.is

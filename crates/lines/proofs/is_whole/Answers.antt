@@ -9,6 +9,6 @@ pub returns-then-n : goal.returns-then-n
 returns-then-n c =
     search whole-varied
 
-pub returns : goal.returns
-returns c =
-    search whole-unrewarded
+pub returns-else-n : goal.returns-else-n
+returns-else-n c =
+    whole-unrewarded _ _ c.if-n.false

@@ -1,15 +1,8 @@
-use borrow.Author.Rules.{rules}
-use Rattle.lines.proofs.OpenLaws.{undeclared-start, undeclared-on, undeclared-end}
+use mathlib.Core.Path.{refl, ◌∙◌}
+use native.Mathlib.Omega.{arith}
+use Rattle.lines.proofs.OpenLaws.{opening-arities}
 use Rattle.lines.proofs.open_arities.Goals as goal
-
-pub loop-p-init : goal.loop-p-init
-loop-p-init c =
-    (search undeclared-start, search rules)
-
-pub loop-p-preserved : goal.loop-p-preserved
-loop-p-preserved c =
-    (search undeclared-on, search rules)
 
 pub returns : goal.returns
 returns c =
-    search undeclared-end
+    opening-arities c.fill.new.self (c.fill.ensures.len ∙ c.requires) (λ i h. c.fill.ensures.clones i 0 (omega arith) refl)

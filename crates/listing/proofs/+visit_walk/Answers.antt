@@ -27,6 +27,6 @@ pub walk-returns-then-b-i : goal.walk-returns-then-b-i
 walk-returns-then-b-i t c =
     walk-branch c.requires.downward c.if-words-i.false c.requires.n_le_i c.visit-a.ensures c.if-a-eq0.false c.visit-b.ensures c.if-b-i.true
 
-pub walk-returns : goal.walk-returns
-walk-returns t c =
+pub walk-returns-else-b-i : goal.walk-returns-else-b-i
+walk-returns-else-b-i t c =
     walk-branch-off c.requires.downward c.if-words-i.false c.requires.n_le_i c.visit-a.ensures c.if-a-eq0.false c.visit-b.ensures c.if-b-i.false

@@ -1,10 +1,10 @@
 use Rattle.listing.proofs.RowLaws.{enter-new, enter-old}
 use Rattle.listing.proofs.enter.Goals as goal
 
-pub returns-in_default : goal.returns-in_default
-returns-in_default c =
-    search enter-new
-
-pub returns : goal.returns
-returns c =
+pub returns-in-Some : goal.returns-in-Some
+returns-in-Some c =
     search enter-old
+
+pub returns-in-None : goal.returns-in-None
+returns-in-None c =
+    search enter-new

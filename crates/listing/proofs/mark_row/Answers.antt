@@ -1,7 +1,6 @@
 use native.Mathlib.Omega.{arith}
 use Prim.Native.Nat.{◌<◌}
 use Rattle.label.specs.Limits.{most_places}
-use borrow.Author.Rules.{rules}
 use Rattle.listing.proofs.MarkLaws.{mark-leaf, predicate-below, predicate-within, few-places, place-within, places-start, places-next, mark-branch}
 use Rattle.listing.proofs.mark_row.Goals as goal
 
@@ -19,21 +18,21 @@ bounds-arities-predicate c =
 
 pub loop-k-init : goal.loop-k-init
 loop-k-init c =
-    (search rules, places-start _ _ (search few-places))
+    places-start _ _ (search few-places)
 
 pub offset_bounds-marks-place : goal.offset_bounds-marks-place
 offset_bounds-marks-place c =
-    let k-few : c.loop-k.k < most_places = omega (arith, c.loop-k.invariant.1.few) in
+    let k-few : c.loop-k.k < most_places = omega (arith, c.loop-k.invariant.few) in
     omega (arith, place-within _ _ _ _ c.if-l.false c.requires k-few c.place.ensures)
 
 pub bounds-marks-place : goal.bounds-marks-place
 bounds-marks-place c =
-    let k-few : c.loop-k.k < most_places = omega (arith, c.loop-k.invariant.1.few) in
-    omega (arith, c.requires.whole, c.loop-k.invariant.0, place-within _ _ _ _ c.if-l.false c.requires k-few c.place.ensures)
+    let k-few : c.loop-k.k < most_places = omega (arith, c.loop-k.invariant.few) in
+    omega (arith, c.requires.whole, c.loop-k.auto.marks, place-within _ _ _ _ c.if-l.false c.requires k-few c.place.ensures)
 
 pub loop-k-preserved : goal.loop-k-preserved
 loop-k-preserved c =
-    (search rules, search places-next)
+    search places-next
 
 pub returns : goal.returns
 returns c =

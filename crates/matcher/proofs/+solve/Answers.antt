@@ -6,6 +6,7 @@ use Rattle.matcher.proofs.SolveLaws.{known-images}
 use Rattle.matcher.proofs.TryingLaws.{trying_start, trying-end, trying-misfit, trying-next, trying-up, trying-failed}
 use Rattle.matcher.proofs.LevelLaws.{solve-end, solve-recalled, level-slots}
 use Rattle.matcher.proofs.KnownLaws.{unmet-post, met_next, met-post}
+use Rattle.matcher.proofs.+solve.Goals.{then-attempt+else-is_handed_up, else-attempt}
 use Rattle.matcher.proofs.+solve.Goals as goal
 
 pub returns-then-k-ord : goal.returns-then-k-ord
@@ -50,14 +51,15 @@ returns-then-is_handed_up t c =
     trying-up c.loop-j.invariant c.loop-j-test.true c.attempt.ensures c.attempt.auto.theta c.if-attempt.true c.solve-answer.ensures
     c.is_handed_up.ensures c.if-is_handed_up.true
 
-pub loop-j-preserved-then-attempt : goal.loop-j-preserved-then-attempt
-loop-j-preserved-then-attempt t c =
-    trying-failed c.loop-j.invariant c.loop-j-test.true c.attempt.ensures c.attempt.auto.theta c.if-attempt.true c.solve-answer.ensures
-    c.is_handed_up.ensures c.if-is_handed_up.false c.mask_of.ensures c.solve-answer.auto.theta c.solve-answer.auto.store
-
 pub loop-j-preserved : goal.loop-j-preserved
 loop-j-preserved t c =
-    trying-misfit c.loop-j.invariant c.loop-j-test.true c.attempt.ensures c.attempt.auto.theta c.if-attempt.false
+    elim c.if-attempt.branch [
+      | then-attempt+else-is_handed_up w ↦ rw (w.theta-is, w.store-is, w.mask-is)
+          (trying-failed c.loop-j.invariant c.loop-j-test.true c.attempt.ensures c.attempt.auto.theta w.if-attempt.true w.solve-answer.ensures
+          w.is_handed_up.ensures w.if-is_handed_up.false w.mask_of.ensures w.solve-answer.auto.theta w.solve-answer.auto.store)
+      | else-attempt w ↦ rw (w.theta-is, w.store-is, w.mask-is)
+          (trying-misfit c.loop-j.invariant c.loop-j-test.true c.attempt.ensures c.attempt.auto.theta w.if-attempt.false)
+    ]
 
 pub returns : goal.returns
 returns t c = trying-end c.loop-j.invariant c.loop-j-test.false c.remember.ensures c.remember.auto.store

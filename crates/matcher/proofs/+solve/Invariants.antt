@@ -8,6 +8,3 @@ decreases-solve l = length l.ord.now - l.k
 abbrev pub invariant-loop-j : goal.invariant-loop-j
 invariant-loop-j l =
     Trying l.ord l.into l.tab l.fn.theta l.fn.store l.k l.x l.bound l.vars l.total l.theta l.store l.mask l.j
-
-abbrev pub decreases-loop-j : goal.decreases-loop-j
-decreases-loop-j l = l.total - l.j

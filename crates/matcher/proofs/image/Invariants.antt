@@ -1,10 +1,5 @@
-use Prim.Native.Nat.{◌-◌}
-use Rattle.label.specs.Limits.{most_places}
 use Rattle.matcher.proofs.FindLaws.{Packing}
 use Rattle.matcher.proofs.image.Given as goal
 
 abbrev pub invariant-loop-k : goal.invariant-loop-k
 invariant-loop-k l = Packing l.theta l.l l.n l.k
-
-abbrev pub decreases-loop-k : goal.decreases-loop-k
-decreases-loop-k l = most_places - l.k

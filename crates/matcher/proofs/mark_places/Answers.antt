@@ -1,10 +1,12 @@
-use Rattle.matcher.proofs.MarkLaws.{places-start, places-next}
+use mathlib.Core.Path.{refl}
+use Rattle.matcher.specs.Search.{along}
+use Rattle.matcher.proofs.MarkLaws.{places-next}
 use Rattle.matcher.proofs.mark_places.Goals as goal
 
 pub loop-k-init : goal.loop-k-init
-loop-k-init c =
-    places-start _ _ _
+unfolding along
+loop-k-init c = refl
 
 pub loop-k-preserved : goal.loop-k-preserved
 loop-k-preserved c =
-    places-next c.loop-k.invariant c.loop-k-test.true c.place-t.ensures
+    places-next _ _ _ c.loop-k.invariant c.place-t.ensures

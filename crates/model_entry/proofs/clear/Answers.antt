@@ -1,19 +1,14 @@
-use borrow.Author.Rules.{rules}
-use Rattle.model_entry.proofs.VariantLaws.{clear-start, clear_room, clear-on, clear-end}
+use native.Mathlib.Omega.{arith}
+use mathlib.Core.Path.{◌≡◌, refl, ◌∙◌}
+use Prim.Native.Nat.{◌+◌, ◌-◌}
+use lib.ListN.{length, drop, length-drop}
+use lib.Seq.{length-take-le}
+use Rattle.model.specs.Layout.{span_words}
+use Rattle.model_entry.proofs.VariantLaws.{words-cleared}
 use Rattle.model_entry.proofs.clear.Goals as goal
-
-pub loop-k-init : goal.loop-k-init
-loop-k-init c =
-    (clear-start _ _, search rules)
-
-pub bounds-table-first : goal.bounds-table-first
-bounds-table-first c =
-    search clear_room
-
-pub loop-k-preserved : goal.loop-k-preserved
-loop-k-preserved c =
-    (search clear-on, search rules)
 
 pub returns : goal.returns
 returns c =
-    search clear-end
+    let n = c.args.first + span_words - c.args.first in
+    let long : length c.fill.new.self ≡ n = c.fill.ensures.len ∙ length-take-le n (drop c.args.first c.args.table.now) (rw length-drop (omega arith)) in
+    words-cleared c.args.table.now c.fill.new.self c.args.first n c.requires (omega arith) long (λ j h. c.fill.ensures.clones j 0 (omega arith) refl)

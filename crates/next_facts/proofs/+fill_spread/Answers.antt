@@ -52,30 +52,28 @@ spread-bounds-env-t-in-loop-v t c =
 pub spread-fill-requires : goal.spread-fill-requires
 spread-fill-requires t c = (omega (arith, c.decreases), spreading-fillable c.loop-v.invariant c.loop-v-test.true)
 
-pub spread-shape_of-env-in_default : goal.spread-shape_of-env-in_default
-spread-shape_of-env-in_default t c =
+pub spread-shape_of-env-in_err-m : goal.spread-shape_of-env-in_err-m
+spread-shape_of-env-in_err-m t c =
     spreading-env c.loop-v.invariant
     c.fill.auto.env
 
-pub spread-shape_of-marks-in_default : goal.spread-shape_of-marks-in_default
-spread-shape_of-marks-in_default t c =
+pub spread-shape_of-marks-in_err-m : goal.spread-shape_of-marks-in_err-m
+spread-shape_of-marks-in_err-m t c =
     c.fill.auto.marks ∙ c.loop-v.invariant.marks-same
 
-pub spread-shape_of-out-in_default : goal.spread-shape_of-out-in_default
-spread-shape_of-out-in_default t c =
+pub spread-shape_of-out-in_err-m : goal.spread-shape_of-out-in_err-m
+spread-shape_of-out-in_err-m t c =
     c.fill.auto.out ∙ c.loop-v.invariant.out-same
 
-pub spread-returns-in_default : goal.spread-returns-in_default
-spread-returns-in_default t c =
-    spreading-many c.loop-v.invariant
-    c.loop-v-test.true
-    c.fill.ensures c.in_default.is
+pub spread-returns-in_err-m : goal.spread-returns-in_err-m
+spread-returns-in_err-m t c =
+    rw c.from_residual.ensures (spreading-many c.loop-v.invariant c.loop-v-test.true c.fill.ensures c.in_err-m.was)
 
 pub spread-loop-v-preserved : goal.spread-loop-v-preserved
 spread-loop-v-preserved t c =
     spreading-on c.loop-v.invariant
     c.loop-v-test.true
-    c.fill.ensures c.fill.auto.env c.fill.auto.marks c.fill.auto.out c.in-Rows.is
+    c.fill.ensures c.fill.auto.env c.fill.auto.marks c.fill.auto.out c.in_ok-m.was
 
 pub spread-bounds-env-t-2 : goal.spread-bounds-env-t-2
 spread-bounds-env-t-2 t c =

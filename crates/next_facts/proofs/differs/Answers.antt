@@ -1,10 +1,10 @@
 use Rattle.next_facts.proofs.RowLaws.{differs-free, differs-other}
 use Rattle.next_facts.proofs.differs.Goals as goal
 
-pub returns-then-w-eq-FREE : goal.returns-then-w-eq-FREE
-returns-then-w-eq-FREE c =
-    search differs-free
-
-pub returns : goal.returns
-returns c =
+pub returns-then-w-ne-FREE : goal.returns-then-w-ne-FREE
+returns-then-w-ne-FREE c =
     search differs-other
+
+pub returns-else-w-ne-FREE : goal.returns-else-w-ne-FREE
+returns-else-w-ne-FREE c =
+    search differs-free

@@ -13,16 +13,15 @@ pub fill_at-requires-clause-standing : goal.fill_at-requires-clause-standing
 fill_at-requires-clause-standing c =
     c.requires.standing
 
-pub returns-in_default : goal.returns-in_default
-returns-in_default c =
-    passing-many c.loop-q.invariant
-    c.loop-q-test.true c.fill_at.ensures c.in_default.is
+pub returns-in_err-count : goal.returns-in_err-count
+returns-in_err-count c =
+    rw c.from_residual.ensures (passing-many c.loop-q.invariant c.loop-q-test.true c.fill_at.ensures c.in_err-count.was)
 
 pub loop-q-preserved : goal.loop-q-preserved
 loop-q-preserved c =
     passing-on c.loop-q.invariant
     c.loop-q-test.true c.fill_at.ensures
-    c.fill_at.auto.marks c.fill_at.auto.out c.in-Rows.is
+    c.fill_at.auto.marks c.fill_at.auto.out c.in_ok-count.was
 
 pub returns : goal.returns
 returns c =

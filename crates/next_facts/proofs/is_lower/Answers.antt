@@ -34,10 +34,6 @@ pub returns-then-x-y : goal.returns-then-x-y
 returns-then-x-y c =
     lowering-found c.loop-j.invariant c.loop-j-test.true
 
-pub overflow_add-j : goal.overflow_add-j
-overflow_add-j c =
-    omega (arith, lowering-first c.loop-j.invariant c.loop-j-test.true)
-
 pub loop-j-preserved : goal.loop-j-preserved
 loop-j-preserved c =
     search lowering-on

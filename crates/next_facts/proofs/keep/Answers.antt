@@ -5,13 +5,13 @@ pub loop-i-init : goal.loop-i-init
 loop-i-init c =
     search keeping_start
 
-pub returns-in_default : goal.returns-in_default
-returns-in_default c =
-    search keeping-many
+pub returns-in_err-m : goal.returns-in_err-m
+returns-in_err-m c =
+    rw c.from_residual.ensures (search (keeping-many, c.in_err-m.was))
 
 pub loop-i-preserved : goal.loop-i-preserved
 loop-i-preserved c =
-    search keeping-on
+    search (keeping-on, c.in_ok-m.was)
 
 pub returns : goal.returns
 returns c =

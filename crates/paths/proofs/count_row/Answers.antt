@@ -1,5 +1,6 @@
+use mathlib.Core.Path.{◌∙◌}
 use native.Mathlib.Omega.{arith}
-use Rattle.paths.proofs.RouteLaws.{count-leaf, high-room, low-room, sum-small, count-more, count-sum}
+use Rattle.paths.proofs.RouteLaws.{count-leaf, high-room, low-room, sum-small, count-min}
 use Rattle.paths.proofs.count_row.Goals as goal
 
 pub returns-then-words-i : goal.returns-then-words-i
@@ -26,10 +27,6 @@ pub overflow_add-a-2 : goal.overflow_add-a-2
 overflow_add-a-2 c =
     omega (arith, sum-small c.requires.rows c.requires.i_lt_n c.if-words-i.false c.requires.counted (omega arith))
 
-pub returns-then-a-b : goal.returns-then-a-b
-returns-then-a-b c =
-    count-more c.requires.rows c.requires.i_lt_n c.if-words-i.false c.requires.counted (omega arith) c.if-a-b.true
-
 pub returns : goal.returns
 returns c =
-    count-sum c.requires.rows c.requires.i_lt_n c.if-words-i.false c.requires.counted (omega arith) c.if-a-b.false
+    c.min.ensures ∙ count-min c.requires.rows c.requires.i_lt_n c.if-words-i.false c.requires.counted (omega arith)

@@ -34,6 +34,6 @@ pub returns-then-m-counts : goal.returns-then-m-counts
 returns-then-m-counts c =
     side-true c.requires.rows c.requires.counted c.requires.r_lt_n c.loop-i.invariant c.loop-i-test.false c.if-i-r.false c.if-words-i-2.false c.if-m-counts.true
 
-pub returns : goal.returns
-returns c =
+pub returns-else-m-counts : goal.returns-else-m-counts
+returns-else-m-counts c =
     side-false c.requires.rows c.requires.counted c.requires.r_lt_n c.loop-i.invariant c.loop-i-test.false c.if-i-r.false c.if-words-i-2.false c.if-m-counts.false

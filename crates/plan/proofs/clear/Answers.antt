@@ -1,4 +1,3 @@
-use borrow.Author.Rules.{rules}
 use Rattle.plan.proofs.StepLaws.{clear-key, clear-on}
 use Rattle.plan.proofs.clear.Goals as goal
 
@@ -8,4 +7,4 @@ hash-h-requires c =
 
 pub loop-i-preserved : goal.loop-i-preserved
 loop-i-preserved c =
-    (search rules, search clear-on)
+    search clear-on

@@ -5,6 +5,6 @@ pub returns-then-ends : goal.returns-then-ends
 returns-then-ends c =
     search label-end
 
-pub returns : goal.returns
-returns c =
+pub returns-else-ends : goal.returns-else-ends
+returns-else-ends c =
     search label-lower

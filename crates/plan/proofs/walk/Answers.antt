@@ -11,5 +11,5 @@ below-r-requires-clause-count_value c = walk-new _ _
 pub returns-then-r-eq-FULL : goal.returns-then-r-eq-FULL
 returns-then-r-eq-FULL c = walk-out _ c.requires.leading c.key-k.ensures (word-full _ c.if-r-eq-FULL.true) c.below-r.ensures
 
-pub returns : goal.returns
-returns c = walk-out _ c.requires.leading c.key-k.ensures (word-to _ c.if-r-eq-FULL.false) c.below-r.ensures
+pub returns-else-r-eq-FULL : goal.returns-else-r-eq-FULL
+returns-else-r-eq-FULL c = walk-out _ c.requires.leading c.key-k.ensures (word-to _ c.if-r-eq-FULL.false) c.below-r.ensures

@@ -18,20 +18,20 @@ returns-in_default c =
 
 pub overflow_mul-sum : goal.overflow_mul-sum
 overflow_mul-sum c =
-    let p = result-few (c.variants_sum-a.ensures.result _ c.in-Rows.is) in search rules
+    let p = result-few (c.variants_sum-a.ensures.result _ c.in-Ok.is) in search rules
 
 pub slice_bounds-sum-end : goal.slice_bounds-sum-end
 slice_bounds-sum-end c =
-    let p = result-few (c.variants_sum-a.ensures.result _ c.in-Rows.is) in search rules
+    let p = result-few (c.variants_sum-a.ensures.result _ c.in-Ok.is) in search rules
 
 pub slice_bounds-free_up-end : goal.slice_bounds-free_up-end
 slice_bounds-free_up-end c =
-    result-long (c.variants_sum-a.ensures.result _ c.in-Rows.is)
+    result-long (c.variants_sum-a.ensures.result _ c.in-Ok.is)
 
 pub free_up-requires : goal.free_up-requires
 free_up-requires c =
-    action-freeup c.requires.action_task c.requires.value_task c.variants_sum-a.ensures c.in-Rows.is
+    action-freeup c.requires.action_task c.requires.value_task c.variants_sum-a.ensures c.in-Ok.is
 
 pub returns : goal.returns
 returns c =
-    action-given c.requires.action_task c.requires.value_task c.variants_sum-a.ensures c.in-Rows.is c.free_up.ensures
+    action-given c.requires.action_task c.requires.value_task c.variants_sum-a.ensures c.in-Ok.is c.free_up.ensures

@@ -30,7 +30,7 @@ pub loop-a-preserved : goal.loop-a-preserved
 loop-a-preserved c = (
   c.try_action-r.auto.best ∙ c.loop-a.invariant.0,
   c.try_action-r.auto.work ∙ c.loop-a.invariant.1,
-  trying-on c.requires.laid c.requires.value_task c.loop-a.invariant.2 c.loop-a-test.true c.try_action-r.ensures c.in-Rows.is,
+  trying-on c.requires.laid c.requires.value_task c.loop-a.invariant.2 c.loop-a-test.true c.try_action-r.ensures c.in-Ok.is,
 )
 
 pub returns : goal.returns

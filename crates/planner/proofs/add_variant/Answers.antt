@@ -21,21 +21,21 @@ returns-in_default c =
 
 pub overflow_mul-product : goal.overflow_mul-product
 overflow_mul-product c =
-    let p = result-few (c.variant_product-a.ensures.result _ c.in-Rows.is) in search rules
+    let p = result-few (c.variant_product-a.ensures.result _ c.in-Ok.is) in search rules
 
 pub slice_bounds-product-end : goal.slice_bounds-product-end
 slice_bounds-product-end c =
-    let p = result-few (c.variant_product-a.ensures.result _ c.in-Rows.is) in search rules
+    let p = result-few (c.variant_product-a.ensures.result _ c.in-Ok.is) in search rules
 
 pub slice_bounds-add_apart-end : goal.slice_bounds-add_apart-end
 slice_bounds-add_apart-end c =
-    result-long (c.variant_product-a.ensures.result _ c.in-Rows.is)
+    result-long (c.variant_product-a.ensures.result _ c.in-Ok.is)
 
 pub add_apart-requires : goal.add_apart-requires
 add_apart-requires c =
-    folded-able c.requires.buffer_listing Sum Apart (added_is _ _ _ _ _) c.variant_product-a.ensures c.in-Rows.is c.requires.variant_task.out-room c.requires.variant_task.work-room
+    folded-able c.requires.buffer_listing Sum Apart (added_is _ _ _ _ _) c.variant_product-a.ensures c.in-Ok.is c.requires.variant_task.out-room c.requires.variant_task.work-room
     c.variant_product-a.auto.work
 
 pub returns : goal.returns
 returns c =
-    folded-given c.requires.buffer_listing Sum Apart (added_is _ _ _ _ _) c.variant_product-a.ensures c.in-Rows.is c.add_apart.ensures
+    folded-given c.requires.buffer_listing Sum Apart (added_is _ _ _ _ _) c.variant_product-a.ensures c.in-Ok.is c.add_apart.ensures

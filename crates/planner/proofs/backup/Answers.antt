@@ -25,13 +25,13 @@ replace_value-r-requires-clause-standing c =
 
 pub replace_value-r-requires-clause-scale_le_highest_value : goal.replace_value-r-requires-clause-scale_le_highest_value
 replace_value-r-requires-clause-scale_le_highest_value c =
-    next-few c.requires.laid _ c.next_power-p.ensures c.in-Next.is
+    next-few c.requires.laid _ c.next_power-p.ensures c.in-Some.is
 
 pub returns-in_default-r : goal.returns-in_default-r
 returns-in_default-r c =
-    backed-told c.requires.laid _ c.next_power-p.ensures c.in-Next.is _ c.replace_value-r.ensures c.backed_step.ensures
+    backed-told c.requires.laid _ c.next_power-p.ensures c.in-Some.is _ c.replace_value-r.ensures c.backed_step.ensures
 
 pub returns : goal.returns
 returns c =
-    backed-told c.requires.laid _ c.next_power-p.ensures c.in-Next.is _ c.replace_value-r.ensures
-    (ap (backed_step _) (sym c.in-Rows.is))
+    backed-told c.requires.laid _ c.next_power-p.ensures c.in-Some.is _ c.replace_value-r.ensures
+    (ap (backed_step _) (sym c.in-Ok.is))

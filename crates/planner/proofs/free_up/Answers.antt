@@ -7,12 +7,12 @@ free_checked-r-requires c =
 
 pub returns-in_default : goal.returns-in_default
 returns-in_default c =
-    freed-stops c.requires c.free_checked-r.ensures c.in_default.is c.freed_step.ensures
+    freed-stops c.requires c.free_checked-r.ensures c.in_default.is
 
 pub close_up-requires : goal.close_up-requires
 close_up-requires c =
-    freed-closable c.requires c.free_checked-r.ensures c.in-Done.is
+    freed-closable c.requires c.free_checked-r.ensures c.in-Ok.is
 
 pub returns : goal.returns
 returns c =
-    freed-given c.requires c.free_checked-r.ensures c.in-Done.is c.close_up.ensures
+    freed-given c.requires c.free_checked-r.ensures c.in-Ok.is c.close_up.ensures

@@ -1,19 +1,11 @@
 use Rattle.model.proofs.CheckLaws.{part-spans}
-use mathlib.Core.Path.{sym, ap}
-use Rattle.planner.specs.Tasks.{regressed_step}
 use Rattle.planner.proofs.VariantLaws.{regress-able, regress-told}
 use Rattle.planner.proofs.regress_variant.Goals as goal
 
-pub regress_checked-r-requires : goal.regress_checked-r-requires
-regress_checked-r-requires c =
+pub regress_checked-requires : goal.regress_checked-requires
+regress_checked-requires c =
     regress-able c.requires (part-spans c.args.table.now c.args.place)
-
-pub returns-in_default : goal.returns-in_default
-returns-in_default c =
-    regress-told c.requires (part-spans c.args.table.now c.args.place) c.regress_checked-r.ensures.value
-    c.regress_checked-r.ensures.out_after c.regressed_step.ensures
 
 pub returns : goal.returns
 returns c =
-    regress-told c.requires (part-spans c.args.table.now c.args.place) c.regress_checked-r.ensures.value
-    c.regress_checked-r.ensures.out_after (ap regressed_step (sym c.in-Done.is))
+    regress-told c.requires (part-spans c.args.table.now c.args.place) c.regress_checked.ensures.value c.regress_checked.ensures.out_after

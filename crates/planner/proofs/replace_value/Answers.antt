@@ -27,39 +27,39 @@ scale_reward-b-requires c =
 
 pub returns-in_default-b : goal.returns-in_default-b
 returns-in_default-b c =
-    calls-stop-2 c.requires.laid c.requires.standing _ c.actions_best-a.ensures c.in-Rows.is c.scale_reward-b.ensures
+    calls-stop-2 c.requires.laid c.requires.standing _ c.actions_best-a.ensures c.in-Ok.is c.scale_reward-b.ensures
     c.in_default-b.is
 
 pub overflow_mul-best : goal.overflow_mul-best
 overflow_mul-best c =
-    let p = result-few (c.actions_best-a.ensures.result _ c.in-Rows.is) in search rules
+    let p = result-few (c.actions_best-a.ensures.result _ c.in-Ok.is) in search rules
 
 pub slice_bounds-best-end : goal.slice_bounds-best-end
 slice_bounds-best-end c =
-    let p = result-few (c.actions_best-a.ensures.result _ c.in-Rows.is) in search rules
+    let p = result-few (c.actions_best-a.ensures.result _ c.in-Ok.is) in search rules
 
 pub slice_bounds-sum_apart-end : goal.slice_bounds-sum_apart-end
 slice_bounds-sum_apart-end c =
-    result-long (c.actions_best-a.ensures.result _ c.in-Rows.is)
+    result-long (c.actions_best-a.ensures.result _ c.in-Ok.is)
 
 pub overflow_mul-reward : goal.overflow_mul-reward
 overflow_mul-reward c =
-    let p = result-few (c.scale_reward-b.ensures.result _ c.in-Rows-b.is) in search rules
+    let p = result-few (c.scale_reward-b.ensures.result _ c.in-Ok-b.is) in search rules
 
 pub slice_bounds-reward-end : goal.slice_bounds-reward-end
 slice_bounds-reward-end c =
-    let p = result-few (c.scale_reward-b.ensures.result _ c.in-Rows-b.is) in search rules
+    let p = result-few (c.scale_reward-b.ensures.result _ c.in-Ok-b.is) in search rules
 
 pub slice_bounds-sum_apart-end-2 : goal.slice_bounds-sum_apart-end-2
 slice_bounds-sum_apart-end-2 c =
-    result-long (c.scale_reward-b.ensures.result _ c.in-Rows-b.is)
+    result-long (c.scale_reward-b.ensures.result _ c.in-Ok-b.is)
 
 pub sum_apart-requires : goal.sum_apart-requires
 sum_apart-requires c =
-    calls-operands c.requires.laid c.requires.standing _ c.actions_best-a.ensures c.in-Rows.is c.scale_reward-b.ensures c.in-Rows-b.is
+    calls-operands c.requires.laid c.requires.standing _ c.actions_best-a.ensures c.in-Ok.is c.scale_reward-b.ensures c.in-Ok-b.is
     (c.scale_reward-b.auto.work ∙ c.actions_best-a.auto.work)
 
 pub returns : goal.returns
 returns c =
-    calls-wrote c.requires.laid c.requires.standing _ c.actions_best-a.ensures c.in-Rows.is c.scale_reward-b.ensures c.in-Rows-b.is
+    calls-wrote c.requires.laid c.requires.standing _ c.actions_best-a.ensures c.in-Ok.is c.scale_reward-b.ensures c.in-Ok-b.is
     c.sum_apart.ensures

@@ -21,21 +21,21 @@ returns-in_default c =
 
 pub overflow_mul-gain : goal.overflow_mul-gain
 overflow_mul-gain c =
-    let p = result-few (c.action_value-a.ensures.result _ c.in-Rows.is) in search rules
+    let p = result-few (c.action_value-a.ensures.result _ c.in-Ok.is) in search rules
 
 pub slice_bounds-gain-end : goal.slice_bounds-gain-end
 slice_bounds-gain-end c =
-    let p = result-few (c.action_value-a.ensures.result _ c.in-Rows.is) in search rules
+    let p = result-few (c.action_value-a.ensures.result _ c.in-Ok.is) in search rules
 
 pub slice_bounds-fold_shared-end : goal.slice_bounds-fold_shared-end
 slice_bounds-fold_shared-end c =
-    result-long (c.action_value-a.ensures.result _ c.in-Rows.is)
+    result-long (c.action_value-a.ensures.result _ c.in-Ok.is)
 
 pub fold_shared-requires : goal.fold_shared-requires
 fold_shared-requires c =
-    folded-able c.requires.buffer_listing Max Shared (tried-is _ _ _ _ _) c.action_value-a.ensures c.in-Rows.is c.requires.value_task.out-room c.requires.value_task.work-room
+    folded-able c.requires.buffer_listing Max Shared (tried-is _ _ _ _ _) c.action_value-a.ensures c.in-Ok.is c.requires.value_task.out-room c.requires.value_task.work-room
     c.action_value-a.auto.work
 
 pub returns : goal.returns
 returns c =
-    folded-given c.requires.buffer_listing Max Shared (tried-is _ _ _ _ _) c.action_value-a.ensures c.in-Rows.is c.fold_shared.ensures
+    folded-given c.requires.buffer_listing Max Shared (tried-is _ _ _ _ _) c.action_value-a.ensures c.in-Ok.is c.fold_shared.ensures

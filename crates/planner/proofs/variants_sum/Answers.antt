@@ -31,7 +31,7 @@ pub loop-v-preserved : goal.loop-v-preserved
 loop-v-preserved c = (
   c.add_variant-r.auto.sum ∙ c.loop-v.invariant.0,
   c.add_variant-r.auto.work ∙ c.loop-v.invariant.1,
-  summing_on c.requires.action_task c.requires.value_task c.loop-v.invariant.2 c.loop-v-test.true c.add_variant-r.ensures c.in-Rows.is,
+  summing_on c.requires.action_task c.requires.value_task c.loop-v.invariant.2 c.loop-v-test.true c.add_variant-r.ensures c.in-Ok.is,
 )
 
 pub returns : goal.returns

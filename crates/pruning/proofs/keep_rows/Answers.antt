@@ -8,21 +8,20 @@ pub loop-i-init : goal.loop-i-init
 loop-i-init c =
     (refl, refl, refl, refl, c.requires)
 
-pub keep_row-r-requires-clause-keeping : goal.keep_row-r-requires-clause-keeping
-keep_row-r-requires-clause-keeping c =
+pub keep_row-requires-clause-keeping : goal.keep_row-requires-clause-keeping
+keep_row-requires-clause-keeping c =
     c.loop-i.invariant.4
 
-pub keep_row-r-requires-clause-i_bound : goal.keep_row-r-requires-clause-i_bound
-keep_row-r-requires-clause-i_bound c =
+pub keep_row-requires-clause-i_bound : goal.keep_row-requires-clause-i_bound
+keep_row-requires-clause-i_bound c =
     c.loop-i-test.true
 
-pub returns-in_default : goal.returns-in_default
-returns-in_default c =
-    keep-full c.loop-i.invariant.4 c.loop-i-test.true c.keep_row-r.ensures c.in_default.is
+pub returns-in_err-j : goal.returns-in_err-j
+returns-in_err-j c = rw c.from_residual.ensures (keep-full c.loop-i.invariant.4 c.loop-i-test.true c.keep_row.ensures c.in_err-j.was)
 
 pub overflow_cast-numbers : goal.overflow_cast-numbers
 overflow_cast-numbers c =
-    keep-fits c.loop-i.invariant.4 c.loop-i-test.true c.keep_row-r.ensures c.in-Row.is
+    keep-fits c.loop-i.invariant.4 c.loop-i-test.true c.keep_row.ensures c.in_ok-j.was
 
 pub offset_bounds-numbers-i : goal.offset_bounds-numbers-i
 offset_bounds-numbers-i c =
@@ -32,13 +31,9 @@ pub bounds-numbers-i : goal.bounds-numbers-i
 bounds-numbers-i c =
     keep-place c.loop-i.invariant.4 c.loop-i-test.true
 
-pub overflow_add-i : goal.overflow_add-i
-overflow_add-i c =
-    omega (arith, keep-few c.loop-i.invariant.4 c.loop-i-test.true)
-
 pub loop-i-preserved : goal.loop-i-preserved
 loop-i-preserved c =
-    (search rules, search rules, search rules, search rules, keep-on c.loop-i.invariant.4 c.loop-i-test.true c.keep_row-r.ensures c.in-Row.is)
+    (search rules, search rules, search rules, search rules, keep-on c.loop-i.invariant.4 c.loop-i-test.true c.keep_row.ensures c.in_ok-j.was)
 
 pub overflow_sub-n : goal.overflow_sub-n
 overflow_sub-n c =

@@ -12,16 +12,16 @@ returns-in_default c =
 
 pub write-requires : goal.write-requires
 write-requires c =
-    prune-writable c.requires c.keep.ensures c.in-Row.is c.keep.auto.work 2048 2048 (lit≤ tt) (lit≤ tt)
+    prune-writable c.requires c.keep.ensures c.in-Some.is c.keep.auto.work 2048 2048 (lit≤ tt) (lit≤ tt)
 
 pub returns-in_default-write : goal.returns-in_default-write
 returns-in_default-write c =
-    prune-many c.requires c.keep.ensures c.in-Row.is c.keep.auto.work c.write.ensures c.in_default-write.is
+    prune-many c.requires c.keep.ensures c.in-Some.is c.keep.auto.work c.write.ensures c.in_default-write.is
 
 pub close_up-requires : goal.close_up-requires
 close_up-requires c =
-    prune-closable c.requires c.keep.ensures c.in-Row.is c.keep.auto.work c.write.ensures c.in-Rows.is
+    prune-closable c.requires c.keep.ensures c.in-Some.is c.keep.auto.work c.write.ensures c.in-Some-write.is
 
 pub returns : goal.returns
 returns c =
-    prune-done c.requires c.keep.ensures c.in-Row.is c.keep.auto.work c.write.ensures c.in-Rows.is c.close_up.ensures
+    prune-done c.requires c.keep.ensures c.in-Some.is c.keep.auto.work c.write.ensures c.in-Some-write.is c.close_up.ensures

@@ -5,8 +5,8 @@ pub returns-then-pass-ne0 : goal.returns-then-pass-ne0
 returns-then-pass-ne0 c =
     search ask-waits
 
-pub test-test-requires : goal.test-test-requires
-test-test-requires c =
+pub test-requires : goal.test-requires
+test-requires c =
     ask-packs _ _ c.requires c.unpack.ensures
 
 pub returns-in-Always : goal.returns-in-Always

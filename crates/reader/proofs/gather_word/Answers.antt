@@ -1,10 +1,10 @@
 use Rattle.reader.proofs.GatherCode.{word-gathers, word-passes}
 use Rattle.reader.proofs.gather_word.Goals as goal
 
-pub returns-in-Named : goal.returns-in-Named
-returns-in-Named c =
+pub returns-in-Some : goal.returns-in-Some
+returns-in-Some c =
     search word-gathers
 
-pub returns-in-Other : goal.returns-in-Other
-returns-in-Other c =
+pub returns-in-None : goal.returns-in-None
+returns-in-None c =
     search word-passes

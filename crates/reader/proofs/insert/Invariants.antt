@@ -1,9 +1,5 @@
 use Rattle.reader.proofs.NumberCode.{Inserting}
-use Prim.Native.Nat.{◌-◌}
 use Rattle.reader.proofs.insert.Given as goal
 
 abbrev pub invariant-loop-i : goal.invariant-loop-i
 invariant-loop-i l = Inserting l.initial.variables l.count l.initial.carried l.variables l.i l.carried l.n
-
-abbrev pub decreases-loop-i : goal.decreases-loop-i
-decreases-loop-i l = l.count - l.i

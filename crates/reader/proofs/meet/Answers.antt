@@ -1,4 +1,4 @@
-use Rattle.reader.proofs.TermCode.{meet-any, meet-none, meet-only}
+use Rattle.reader.proofs.TermCode.{meet-any, meet-bound}
 use Rattle.reader.proofs.meet.Goals as goal
 
 pub returns-in-Any : goal.returns-in-Any
@@ -7,8 +7,4 @@ returns-in-Any c =
 
 pub returns-in-None : goal.returns-in-None
 returns-in-None c =
-    search meet-none
-
-pub returns-in-Only : goal.returns-in-Only
-returns-in-Only c =
-    search meet-only
+    search meet-bound

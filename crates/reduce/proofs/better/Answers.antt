@@ -1,3 +1,4 @@
+use native.Mathlib.Omega.{arith}
 use Rattle.reduce.proofs.SearchLaws.{better-first, better-higher, better-lower, better-sooner, better-stays}
 use Rattle.reduce.proofs.better.Goals as goal
 
@@ -13,10 +14,8 @@ pub returns-then-leaves-k : goal.returns-then-leaves-k
 returns-then-leaves-k c =
     search better-lower
 
-pub returns-then-k-best : goal.returns-then-k-best
-returns-then-k-best c =
-    search better-sooner
-
 pub returns : goal.returns
 returns c =
-    search better-stays
+    let sooner = better-sooner c.requires.leaves c.requires.best_le_m c.requires.k_lt_m c.if-best-m.false c.if-leaves-best.false c.if-leaves-k.false in
+    let stays = better-stays c.requires.leaves c.requires.best_le_m c.requires.k_lt_m c.if-best-m.false c.if-leaves-best.false c.if-leaves-k.false in
+    grind arith

@@ -1,4 +1,3 @@
-use mathlib.Core.Bool.{false}
 use native.Mathlib.Omega.{arith}
 use borrow.Author.Rules.{rules}
 use Rattle.reduce.proofs.EdgeLaws.{row_small, row-place, leaf-word, on-start, on-found, on-again, on_none}

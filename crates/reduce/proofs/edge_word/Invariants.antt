@@ -9,6 +9,3 @@ use Rattle.reduce.proofs.edge_word.Given as goal
 
 abbrev pub invariant-loop-p : goal.invariant-loop-p
 invariant-loop-p l = (l.p ≤ l.m) × (is_on (tree l.words (l.n - 1)) (winning l.wins l.p) (tree l.words l.r) (eqb l.side 1) ≡ false)
-
-abbrev pub decreases-loop-p : goal.decreases-loop-p
-decreases-loop-p l = l.m - l.p

@@ -3,17 +3,9 @@ use Rattle.label.specs.Limits.{term_end}
 use Rattle.reduce.proofs.BlockLaws.{block-terms, block-done}
 use Rattle.reduce.proofs.fact_block.Goals as goal
 
-pub fact_rows-requires-clause-labelled : goal.fact_rows-requires-clause-labelled
-fact_rows-requires-clause-labelled c =
-    c.requires.labelled
-
 pub fact_rows-requires-clause-term_map : goal.fact_rows-requires-clause-term_map
 fact_rows-requires-clause-term_map c =
     block-terms (c.requires) term_end c.objects_into.ensures c.object_map.ensures c.object_map.auto.map (lit≤ tt)
-
-pub fact_rows-requires-clause-n_in_bounds : goal.fact_rows-requires-clause-n_in_bounds
-fact_rows-requires-clause-n_in_bounds c =
-    c.requires.room
 
 pub returns : goal.returns
 returns c =

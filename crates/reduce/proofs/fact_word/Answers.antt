@@ -5,8 +5,8 @@ pub returns-then-w : goal.returns-then-w
 returns-then-w c =
     search word-leaf
 
-pub renamed-f-requires : goal.renamed-f-requires
-renamed-f-requires c =
+pub renamed-requires : goal.renamed-requires
+renamed-requires c =
     search word-movable
 
 pub returns : goal.returns

@@ -9,10 +9,6 @@ pub loop-i-init : goal.loop-i-init
 loop-i-init c =
     (refl, told_none _ _ _ _)
 
-pub edge_word-requires-clause-won : goal.edge_word-requires-clause-won
-edge_word-requires-clause-won c =
-    c.requires.won
-
 pub edge_word-requires-clause-edged : goal.edge_word-requires-clause-edged
 edge_word-requires-clause-edged c =
     told-edged c.loop-i-test.true 1 (omega arith) (omega arith)
@@ -20,10 +16,6 @@ edge_word-requires-clause-edged c =
 pub bounds-edges-i : goal.bounds-edges-i
 bounds-edges-i c =
     omega (arith, c.loop-i-test.true, c.loop-i.invariant.0, c.requires.words_in_bounds)
-
-pub edge_word-requires-in-loop-i-clause-won : goal.edge_word-requires-in-loop-i-clause-won
-edge_word-requires-in-loop-i-clause-won c =
-    c.requires.won
 
 pub edge_word-requires-in-loop-i-clause-edged : goal.edge_word-requires-in-loop-i-clause-edged
 edge_word-requires-in-loop-i-clause-edged c =

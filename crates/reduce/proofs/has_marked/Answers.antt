@@ -1,19 +1,12 @@
-use borrow.Author.Rules.{rules}
-use Rattle.reduce.proofs.KindLaws.{used_start, used-found, used-on, used-none}
+use Rattle.std.proofs.Common.{◌≡◌, ℕ, ◌+◌, ◌-◌, not, eqb, take, drop, ◌∙◌, rules, tests, arith}
+use Rattle.std.proofs.lemmas.Iterator.{YieldsList-from_slice}
+use Rattle.std.proofs.lemmas.Iterator.Search.{any_from_yields_List}
+use Rattle.reduce.proofs.KindLaws.{used_listed}
 use Rattle.reduce.proofs.has_marked.Goals as goal
-
-pub loop-t-init : goal.loop-t-init
-loop-t-init c =
-    (search rules, used_start _ _)
-
-pub returns-then-used-first-ne0 : goal.returns-then-used-first-ne0
-returns-then-used-first-ne0 c =
-    search used-found
-
-pub loop-t-preserved : goal.loop-t-preserved
-loop-t-preserved c =
-    (search rules, search used-on)
 
 pub returns : goal.returns
 returns c =
-    search used-none
+    let e : c.args.first + c.args.n - c.args.first ≡ c.args.n = omega arith in
+    let xs = take c.args.n (drop c.args.first c.args.used.now) in
+    any_from_yields_List (λ (x : ℕ). not (eqb x 0)) _ _ c.any.result c.any.ensures.ran (YieldsList-from_slice xs cc) (λ x b q k. search (rules, tests))
+    ∙ used_listed c.args.used.now c.args.first c.args.n c.requires

@@ -1,4 +1,3 @@
-use mathlib.Core.Path.{refl}
 use lib.Dec.{lit≤}
 use native.Mathlib.Omega.{arith}
 use Rattle.reduce.proofs.CheckLaws.{check-rows, check-room, check-some, check-many, check-valid, check-kinds, check-variables, check-small, check-runs, check-plain}
@@ -23,10 +22,6 @@ returns-then-m-gt-PATHS c =
 pub used-requires-clause-valid : goal.used-requires-clause-valid
 used-requires-clause-valid c =
     check-valid c.requires
-
-pub used-requires-clause-marks_len : goal.used-requires-clause-marks_len
-used-requires-clause-marks_len c =
-    refl
 
 pub returns-then-has_kinds : goal.returns-then-has_kinds
 returns-then-has_kinds c =

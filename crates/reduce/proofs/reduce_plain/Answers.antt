@@ -19,10 +19,10 @@ pub find_edges-requires-clause-words_in_bounds : goal.find_edges-requires-clause
 find_edges-requires-clause-words_in_bounds c =
     plain-edges c.requires
 
-pub prune-left-requires : goal.prune-left-requires
-prune-left-requires c =
+pub prune-requires : goal.prune-requires
+prune-requires c =
     plain-prunable c.requires 2048 (lit≤ tt) c.find_edges.auto.edges
 
 pub returns : goal.returns
 returns c =
-    plain_done c.requires c.find_winners-formed.ensures c.if-formed-gt-FORMED.false (zeros 256) c.find_edges.ensures c.prune-left.ensures
+    plain_done c.requires c.find_winners-formed.ensures c.if-formed-gt-FORMED.false (zeros 256) c.find_edges.ensures c.prune.ensures

@@ -1,11 +1,5 @@
-use mathlib.Core.Path.{refl}
-use borrow.Author.Rules.{rules}
 use Rattle.reduce.proofs.SearchLaws.{sign-found, sign-on, sign-none}
 use Rattle.reduce.proofs.sign_of.Goals as goal
-
-pub loop-c-init : goal.loop-c-init
-loop-c-init c =
-    (search rules, refl)
 
 pub returns-then-x-fact : goal.returns-then-x-fact
 returns-then-x-fact c =
@@ -13,7 +7,7 @@ returns-then-x-fact c =
 
 pub loop-c-preserved : goal.loop-c-preserved
 loop-c-preserved c =
-    (search rules, search sign-on)
+    search sign-on
 
 pub returns : goal.returns
 returns c =

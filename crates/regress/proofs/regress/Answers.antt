@@ -1,10 +1,11 @@
+use Rattle.std.proofs.lemmas.Result.{err_from_is_err_and}
 use Rattle.regress.proofs.AnswerLaws.{regress-none, regress-unlisted, regress-short, regress-narrow, regress-lent, regress-regressable, regress-faulty, regress-passed}
 use Rattle.std.proofs.lemmas.Bool.{not_from_false}
 use Rattle.std.proofs.lemmas.Bool.{not_from_true}
 use Rattle.regress.proofs.regress.Goals as goal
 
-pub judge_all-v-requires : goal.judge_all-v-requires
-judge_all-v-requires c =
+pub judge_all-requires : goal.judge_all-requires
+judge_all-requires c =
     let checked = not_from_true _ c.if-not-check.false in
     let listed = not_from_true _ c.if-not-are_listed.false in
     regress-lent _ _ _ _ c.args.out.now c.args.work.now c.check.ensures checked c.are_listed.ensures listed c.if-out-lt-RESULT_WORDS.false c.if-work-lt-SPACE_WORDS.false
@@ -55,30 +56,31 @@ returns-then-work-lt-SPACE_WORDS-clause-out_after c =
     let listed = not_from_true _ c.if-not-are_listed.false in
     (regress-narrow _ _ _ _ c.args.out.now c.args.work.now c.check.ensures checked c.are_listed.ensures listed c.if-work-lt-SPACE_WORDS.true).1
 
-pub returns-in-Passed-clause-value : goal.returns-in-Passed-clause-value
-returns-in-Passed-clause-value c =
+pub returns-clause-value : goal.returns-clause-value
+returns-clause-value c =
     let checked = not_from_true _ c.if-not-check.false in
     let listed = not_from_true _ c.if-not-are_listed.false in
     (regress-passed _ _ _ _ c.args.out.now c.args.work.now c.check.ensures checked c.are_listed.ensures listed c.if-out-lt-RESULT_WORDS.false
-    c.if-work-lt-SPACE_WORDS.false c.judge_all-v.ensures c.in-Passed.is (c.regress_checked.ensures.value, c.regress_checked.ensures.out_after)).0
+    c.if-work-lt-SPACE_WORDS.false c.judge_all.ensures c.in_ok-judge_all.was (c.regress_checked.ensures.value, c.regress_checked.ensures.out_after)).0
 
-pub returns-in-Passed-clause-out_after : goal.returns-in-Passed-clause-out_after
-returns-in-Passed-clause-out_after c =
+pub returns-clause-out_after : goal.returns-clause-out_after
+returns-clause-out_after c =
     let checked = not_from_true _ c.if-not-check.false in
     let listed = not_from_true _ c.if-not-are_listed.false in
     (regress-passed _ _ _ _ c.args.out.now c.args.work.now c.check.ensures checked c.are_listed.ensures listed c.if-out-lt-RESULT_WORDS.false
-    c.if-work-lt-SPACE_WORDS.false c.judge_all-v.ensures c.in-Passed.is (c.regress_checked.ensures.value, c.regress_checked.ensures.out_after)).1
+    c.if-work-lt-SPACE_WORDS.false c.judge_all.ensures c.in_ok-judge_all.was (c.regress_checked.ensures.value, c.regress_checked.ensures.out_after)).1
 
-pub returns-in-Refused-clause-value : goal.returns-in-Refused-clause-value
-returns-in-Refused-clause-value c =
+pub returns-in_err-judge_all-clause-value : goal.returns-in_err-judge_all-clause-value
+returns-in_err-judge_all-clause-value c =
+    let checked = not_from_true _ c.if-not-check.false in
+    let listed = not_from_true _ c.if-not-are_listed.false in
+    let p = err_from_is_err_and c.from_residual.result c.from_residual.ensures.1 in
+    rw (p.1, p.2) (regress-faulty _ _ _ _ c.args.out.now c.args.work.now c.check.ensures checked c.are_listed.ensures listed c.if-out-lt-RESULT_WORDS.false c.if-work-lt-SPACE_WORDS.false
+    c.judge_all.ensures c.in_err-judge_all.was).0
+
+pub returns-in_err-judge_all-clause-out_after : goal.returns-in_err-judge_all-clause-out_after
+returns-in_err-judge_all-clause-out_after c =
     let checked = not_from_true _ c.if-not-check.false in
     let listed = not_from_true _ c.if-not-are_listed.false in
     (regress-faulty _ _ _ _ c.args.out.now c.args.work.now c.check.ensures checked c.are_listed.ensures listed c.if-out-lt-RESULT_WORDS.false c.if-work-lt-SPACE_WORDS.false
-    c.judge_all-v.ensures c.in-Refused.is).0
-
-pub returns-in-Refused-clause-out_after : goal.returns-in-Refused-clause-out_after
-returns-in-Refused-clause-out_after c =
-    let checked = not_from_true _ c.if-not-check.false in
-    let listed = not_from_true _ c.if-not-are_listed.false in
-    (regress-faulty _ _ _ _ c.args.out.now c.args.work.now c.check.ensures checked c.are_listed.ensures listed c.if-out-lt-RESULT_WORDS.false c.if-work-lt-SPACE_WORDS.false
-    c.judge_all-v.ensures c.in-Refused.is).1
+    c.judge_all.ensures c.in_err-judge_all.was).1

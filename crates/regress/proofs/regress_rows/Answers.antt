@@ -3,6 +3,7 @@ use borrow.Author.Rules.{rules}
 use Rattle.regression.specs.Regression.{regression}
 use Rattle.regress.proofs.KeptLaws.{keeps-start}
 use Rattle.regress.proofs.RowsLaws.{going_start, going-taskable, going-few, going-tasked, going-stop, going-small, going_on, going_end, ready_on}
+use Rattle.std.proofs.lemmas.Result.{err_from_is_err_and}
 use Rattle.regress.proofs.regress_rows.Goals as goal
 
 pub loop-k-init : goal.loop-k-init
@@ -21,30 +22,19 @@ pub slice_bounds-regressed_row-end : goal.slice_bounds-regressed_row-end
 slice_bounds-regressed_row-end c =
     sym c.loop-k.invariant.7.places
 
-pub regressed_row-r-requires-clause-lent : goal.regressed_row-r-requires-clause-lent
-regressed_row-r-requires-clause-lent c =
-    c.requires.lent
-
-pub regressed_row-r-requires-clause-tasked : goal.regressed_row-r-requires-clause-tasked
-regressed_row-r-requires-clause-tasked c =
+pub regressed_row-requires-clause-tasked : goal.regressed_row-requires-clause-tasked
+regressed_row-requires-clause-tasked c =
     going-tasked c.loop-k.invariant.6 c.loop-k-test.true c.task_at-task.ensures
 
-pub regressed_row-r-requires-clause-ready : goal.regressed_row-r-requires-clause-ready
-regressed_row-r-requires-clause-ready c =
-    c.loop-k.invariant.5
-
-pub regressed_row-r-requires-clause-keeps : goal.regressed_row-r-requires-clause-keeps
-regressed_row-r-requires-clause-keeps c =
-    c.loop-k.invariant.7
-
-pub returns-in_default : goal.returns-in_default
+pub returns-in_err-root : goal.returns-in_err-root
 unfolding regression
-returns-in_default c =
-    going-stop c.loop-k.invariant.6 c.loop-k-test.true c.task_at-task.ensures c.regressed_row-r.ensures.ran c.in_default.is
+returns-in_err-root c =
+    let p = err_from_is_err_and c.from_residual.result c.from_residual.ensures.1 in
+    rw (p.1, p.2, ← c.in_err-root.was) (going-stop c.loop-k.invariant.6 c.loop-k-test.true c.task_at-task.ensures c.regressed_row.ensures.ran c.in_err-root.was)
 
 pub overflow_cast-numbers : goal.overflow_cast-numbers
 overflow_cast-numbers c =
-    let p = going-small c.loop-k.invariant.6 c.loop-k-test.true c.task_at-task.ensures c.regressed_row-r.ensures.ran c.in-Row.is in search rules
+    let p = going-small c.loop-k.invariant.6 c.loop-k-test.true c.task_at-task.ensures c.regressed_row.ensures.ran c.in_ok-root.was in search rules
 
 pub offset_bounds-numbers-k : goal.offset_bounds-numbers-k
 offset_bounds-numbers-k c =
@@ -54,20 +44,16 @@ pub bounds-numbers-k : goal.bounds-numbers-k
 bounds-numbers-k c =
     going-few c.loop-k.invariant.6 c.loop-k-test.true
 
-pub overflow_add-k : goal.overflow_add-k
-overflow_add-k c =
-    let p = going-few c.loop-k.invariant.6 c.loop-k-test.true in search rules
-
 pub loop-k-preserved : goal.loop-k-preserved
 loop-k-preserved c = (
-  c.regressed_row-r.auto.plan ∙ c.loop-k.invariant.0,
-  c.regressed_row-r.auto.index ∙ c.loop-k.invariant.1,
-  c.regressed_row-r.auto.space ∙ c.loop-k.invariant.2,
-  c.regressed_row-r.auto.heads ∙ c.loop-k.invariant.3,
-  c.regressed_row-r.auto.links ∙ c.loop-k.invariant.4,
-  ready_on c.loop-k.invariant.5 c.regressed_row-r.ensures.ran c.regressed_row-r.auto.plan c.in-Row.is,
-  going_on c.loop-k.invariant.6 c.loop-k-test.true c.task_at-task.ensures c.regressed_row-r.ensures.ran c.in-Row.is,
-  c.regressed_row-r.ensures.keeps _ _ c.in-Row.is,
+  c.regressed_row.auto.plan ∙ c.loop-k.invariant.0,
+  c.regressed_row.auto.index ∙ c.loop-k.invariant.1,
+  c.regressed_row.auto.space ∙ c.loop-k.invariant.2,
+  c.regressed_row.auto.heads ∙ c.loop-k.invariant.3,
+  c.regressed_row.auto.links ∙ c.loop-k.invariant.4,
+  ready_on c.loop-k.invariant.5 c.regressed_row.ensures.ran c.regressed_row.auto.plan c.in_ok-root.was,
+  going_on c.loop-k.invariant.6 c.loop-k-test.true c.task_at-task.ensures c.regressed_row.ensures.ran c.in_ok-root.was,
+  c.regressed_row.ensures.keeps _ _ c.in_ok-root.was,
 )
 
 pub returns : goal.returns

@@ -1,5 +1,4 @@
 use mathlib.Core.Path.{◌≡◌}
-use Prim.Native.Nat.{◌-◌}
 use lib.ListN.{length}
 use Rattle.row_steps.specs.Running.{Ready}
 use Rattle.regression.specs.RegressCall.{truths_of}
@@ -13,6 +12,3 @@ invariant-loop-k l = (length l.plan ≡ length l.initial.plan) × (length l.inde
     × (length l.heads ≡ length l.initial.heads) × (length l.links ≡ length l.initial.links)
     × Ready l.plan l.index l.limit l.space l.heads l.links l.n × Going (truth_at l.arities (truths_of l.truths l.spans)) l.arities l.value l.initial.space 0 l.space l.numbers l.n l.root l.k
     × Keeps l.arities (truths_of l.truths l.spans) l.space l.n l.kept
-
-abbrev pub decreases-loop-k : goal.decreases-loop-k
-decreases-loop-k l = l.m - l.k

@@ -3,4 +3,4 @@ use Rattle.regress.proofs.regress_space.Goals as goal
 
 pub returns : goal.returns
 returns c =
-    uncrowded-regresses c.regress_few-r.ensures c.is_crowded.ensures c.if-is_crowded.false
+    uncrowded-regresses c.regress_in-r.ensures c.is_crowded.ensures c.if-is_crowded.false

@@ -20,7 +20,7 @@ test_step-requires-clause-two c =
 
 pub returns-in-Leaf : goal.returns-in-Leaf
 returns-in-Leaf c =
-    search (rules, leaf-told, branch-movable, branch-testable, branch-two, branch-replaced)
+    search (rules, leaf-told, branch-replaced)
 
 pub returns-in-Branch : goal.returns-in-Branch
 returns-in-Branch c =

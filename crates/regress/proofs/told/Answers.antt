@@ -1,11 +1,15 @@
+use Rattle.std.specs.Prelude.{◌≡◌, refl, ℕ, Option, None, Some}
+use Rattle.std.specs.Option.{ok_or}
+use Rattle.std.proofs.Common.{◌∙◌}
+use Rattle.refusal.specs.declared.Refusal.TheVariants.{Space}
+use Rattle.diagram.specs.Sizes.{space_rows}
 use Rattle.regress.specs.Tasks.{told_as}
-use mathlib.Core.Path.{sym, ap}
 use Rattle.regress.proofs.told.Goals as goal
 
-pub returns-in-Row : goal.returns-in-Row
-returns-in-Row c =
-    ap told_as (sym c.in-Row.is)
+told-is : (f : Option (ℕ × ℕ)) → ok_or f (Space, space_rows) ≡ told_as f
+told-is None = refl
+told-is (Some (i, n)) = refl
 
-pub returns-in-Full : goal.returns-in-Full
-returns-in-Full c =
-    ap told_as (sym c.in-Full.is)
+pub returns : goal.returns
+returns c =
+    c.ok_or.ensures.value ∙ told-is c.args.f

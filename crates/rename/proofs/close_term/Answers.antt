@@ -9,6 +9,6 @@ pub returns-then-used-t-eq0 : goal.returns-then-used-t-eq0
 returns-then-used-t-eq0 c =
     search close-is-unused
 
-pub returns : goal.returns
-returns c =
+pub returns-else-used-t-eq0 : goal.returns-else-used-t-eq0
+returns-else-used-t-eq0 c =
     search close-is-number

@@ -1,11 +1,10 @@
 use Rattle.rename.proofs.MapSteps.{freeing-start, freeing-on}
-use borrow.Author.Rules.{rules}
 use Rattle.rename.proofs.free_map.Goals as goal
 
 pub loop-t-init : goal.loop-t-init
 loop-t-init c =
-    (search rules, search freeing-start)
+    search freeing-start
 
 pub loop-t-preserved : goal.loop-t-preserved
 loop-t-preserved c =
-    (search rules, search freeing-on)
+    search freeing-on

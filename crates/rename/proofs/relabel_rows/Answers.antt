@@ -1,4 +1,4 @@
-use Rattle.rename.proofs.RowSteps.{row-length, row_word, renaming-on, renaming-end}
+use Rattle.rename.proofs.RowSteps.{row_word, renaming-on, renaming-end}
 use Rattle.rename.proofs.relabel_rows.Goals as goal
 
 pub relabel_word-requires : goal.relabel_word-requires
@@ -7,7 +7,7 @@ relabel_word-requires c =
 
 pub loop-k-preserved : goal.loop-k-preserved
 loop-k-preserved c =
-    (search row-length, search renaming-on)
+    search renaming-on
 
 pub returns : goal.returns
 returns c =

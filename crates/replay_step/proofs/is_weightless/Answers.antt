@@ -17,4 +17,4 @@ returns-in_default c =
 
 pub returns : goal.returns
 returns c =
-    climb-none _ _ _ _ _ _ c.requires.few c.climb-v.ensures c.in-Value.is
+    climb-none _ _ _ _ _ _ c.requires.few c.climb-v.ensures c.in-Ok.is

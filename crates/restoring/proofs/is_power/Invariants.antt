@@ -4,6 +4,3 @@ use Rattle.restoring.proofs.is_power.Given as goal
 
 abbrev pub invariant-loop-i : goal.invariant-loop-i
 invariant-loop-i l = Divided l.scale l.k l.power l.i l.x
-
-abbrev pub decreases-loop-i : goal.decreases-loop-i
-decreases-loop-i l = l.k - l.i

@@ -8,6 +8,3 @@ use Rattle.restoring.proofs.undeclared_fit.Given as goal
 
 abbrev pub invariant-loop-p : goal.invariant-loop-p
 invariant-loop-p l = Looked predicate_count (λ q. leb q l.n || eqb (get_or l.arities q 0) 0) l.p
-
-abbrev pub decreases-loop-p : goal.decreases-loop-p
-decreases-loop-p l = predicate_count - l.p

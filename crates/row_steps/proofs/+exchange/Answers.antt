@@ -20,31 +20,32 @@ exchange-requires t c = (
   exchange-high c.requires c.row_at-row.ensures c.if-row.false,
 )
 
-pub returns-in_default : goal.returns-in_default
-returns-in_default t c = exchange-high-full c.requires c.row_at-row.ensures c.if-row.false c.exchange.ensures c.in_default.is
+pub returns-in_err-high : goal.returns-in_err-high
+returns-in_err-high t c =
+    rw c.from_residual.ensures (exchange-high-full c.requires c.row_at-row.ensures c.if-row.false c.exchange.ensures c.in_err-high.was)
 
 pub exchange-requires-2 : goal.exchange-requires-2
 exchange-requires-2 t c = (
   omega (arith, c.decreases, (kids c.requires c.row_at-row.ensures c.if-row.false).1),
-  exchange-low c.requires c.row_at-row.ensures c.if-row.false c.exchange.ensures c.in-Row.is,
+  exchange-low c.requires c.row_at-row.ensures c.if-row.false c.exchange.ensures c.in_ok-high.was,
 )
 
-pub returns-in_default-exchange : goal.returns-in_default-exchange
-returns-in_default-exchange t c =
-    exchange-low-full c.requires c.row_at-row.ensures c.if-row.false c.exchange.ensures c.in-Row.is
-    c.exchange-2.ensures c.in_default-exchange.is
+pub returns-in_err-low : goal.returns-in_err-low
+returns-in_err-low t c =
+    rw c.from_residual-in_err-low.ensures (exchange-low-full c.requires c.row_at-row.ensures c.if-row.false c.exchange.ensures c.in_ok-high.was
+    c.exchange-2.ensures c.in_err-low.was)
 
 pub form-r-requires-clause-formable : goal.form-r-requires-clause-formable
 form-r-requires-clause-formable t c =
-    exchange-formable c.requires c.row_at-row.ensures c.if-row.false c.exchange.ensures c.in-Row.is
-    c.exchange-2.ensures c.in-Row-exchange.is
+    exchange-formable c.requires c.row_at-row.ensures c.if-row.false c.exchange.ensures c.in_ok-high.was
+    c.exchange-2.ensures c.in_ok-low.was
 
 pub note-requires-2 : goal.note-requires-2
 note-requires-2 t c =
-    branch-notable c.requires c.row_at-row.ensures c.if-row.false c.exchange.ensures c.in-Row.is
-    c.exchange-2.ensures c.in-Row-exchange.is c.form-r.ensures
+    branch-notable c.requires c.row_at-row.ensures c.if-row.false c.exchange.ensures c.in_ok-high.was
+    c.exchange-2.ensures c.in_ok-low.was c.form-r.ensures
 
 pub returns : goal.returns
 returns t c =
-    exchange-branch c.requires c.row_at-row.ensures c.if-row.false c.exchange.ensures c.in-Row.is
-    c.exchange-2.ensures c.in-Row-exchange.is c.form-r.ensures (c.note-2.ensures.value, c.note-2.ensures.memo_after)
+    exchange-branch c.requires c.row_at-row.ensures c.if-row.false c.exchange.ensures c.in_ok-high.was
+    c.exchange-2.ensures c.in_ok-low.was c.form-r.ensures (c.note-2.ensures.value, c.note-2.ensures.memo_after)

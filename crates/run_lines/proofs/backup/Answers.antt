@@ -14,10 +14,10 @@ pub backup-r-requires-clause-powered : goal.backup-r-requires-clause-powered
 backup-r-requires-clause-powered c =
     callable-powered c.requires.laid c.requires.callable
 
-pub returns-in-Done : goal.returns-in-Done
-returns-in-Done c =
-    backup-made c.requires c.backup-r.ensures c.in-Done.is c.backup-r.auto.value c.running.ensures
+pub returns-in-Ok : goal.returns-in-Ok
+returns-in-Ok c =
+    backup-made c.requires c.backup-r.ensures c.in-Ok.is c.backup-r.auto.value c.running.ensures
 
-pub returns-in-Refused : goal.returns-in-Refused
-returns-in-Refused c =
-    backup-stops c.requires c.backup-r.ensures c.in-Refused.is
+pub returns-in-Err : goal.returns-in-Err
+returns-in-Err c =
+    backup-stops c.requires c.backup-r.ensures c.in-Err.is

@@ -11,15 +11,15 @@ pub reduce_checked-r-requires : goal.reduce_checked-r-requires
 reduce_checked-r-requires c =
     reduce-able c.requires 3072 (lit≤ tt)
 
-pub returns-in-Done : goal.returns-in-Done
-returns-in-Done c =
-    reduce-left (replace-result c.requires (reduce-wrote c.requires c.reduce_checked-r.ensures c.in-Done.is) c.copy.ensures) c.copy.auto.out c.running.ensures
+pub returns-in-Ok : goal.returns-in-Ok
+returns-in-Ok c =
+    reduce-left (replace-result c.requires (reduce-wrote c.requires c.reduce_checked-r.ensures c.in-Ok.is) c.copy.ensures) c.copy.auto.out c.running.ensures
 
-pub returns-in-Refused : goal.returns-in-Refused
-returns-in-Refused c =
-    reduce-stays c.reduce_checked-r.ensures.answer c.in-Refused.is
+pub returns-in-Err : goal.returns-in-Err
+returns-in-Err c =
+    reduce-stays c.reduce_checked-r.ensures.answer c.in-Err.is
 
 pub copy-requires : goal.copy-requires
 copy-requires c =
-    let h = replace-copies c.requires (reduce-wrote c.requires c.reduce_checked-r.ensures c.in-Done.is) in
+    let h = replace-copies c.requires (reduce-wrote c.requires c.reduce_checked-r.ensures c.in-Ok.is) in
     record { count_in_bounds = h.0; count_in_bounds_2 = h.1 }

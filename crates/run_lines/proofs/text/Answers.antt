@@ -5,10 +5,10 @@ pub slice_bounds-measure-end : goal.slice_bounds-measure-end
 slice_bounds-measure-end c =
     text-long c.requires
 
-pub returns-in-Bytes : goal.returns-in-Bytes
-returns-in-Bytes c =
-    text-bytes c.measure-m.ensures c.in-Bytes.is
+pub returns-in-Some : goal.returns-in-Some
+returns-in-Some c =
+    text-bytes c.measure-m.ensures c.in-Some.is
 
-pub returns-in-TooLong : goal.returns-in-TooLong
-returns-in-TooLong c =
-    text-refused c.measure-m.ensures c.in-TooLong.is
+pub returns-in-None : goal.returns-in-None
+returns-in-None c =
+    text-refused c.measure-m.ensures c.in-None.is

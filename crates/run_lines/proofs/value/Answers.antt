@@ -13,13 +13,13 @@ pub slice_bounds-value_indexed-end-2 : goal.slice_bounds-value_indexed-end-2
 slice_bounds-value_indexed-end-2 c =
     constants-long c.requires
 
-pub returns-in-Value : goal.returns-in-Value
-returns-in-Value c =
-    value_read_lem (part-lent c.args.state.now facts_base (c.args.n.live.facts * fact_words)) c.value_indexed-v.ensures c.in-Value.is
+pub returns-in-Ok : goal.returns-in-Ok
+returns-in-Ok c =
+    value_read_lem (part-lent c.args.state.now facts_base (c.args.n.live.facts * fact_words)) c.value_indexed-v.ensures c.in-Ok.is
 
-pub returns-in-Refused : goal.returns-in-Refused
-returns-in-Refused c =
-    value-refused (part-lent c.args.state.now facts_base (c.args.n.live.facts * fact_words)) c.value_indexed-v.ensures c.in-Refused.is
+pub returns-in-Err : goal.returns-in-Err
+returns-in-Err c =
+    value-refused (part-lent c.args.state.now facts_base (c.args.n.live.facts * fact_words)) c.value_indexed-v.ensures c.in-Err.is
 
 pub value_indexed-v-requires : goal.value_indexed-v-requires
 value_indexed-v-requires c =

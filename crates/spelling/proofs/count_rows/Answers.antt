@@ -9,28 +9,28 @@ pub loop-i-init : goal.loop-i-init
 loop-i-init c =
     (search rules, refl, refl, bytes-start c.requires.words_in_bounds, brackets-start c.requires.words_in_bounds_2)
 
-pub row_bytes-b-requires-clause-spelt : goal.row_bytes-b-requires-clause-spelt
-row_bytes-b-requires-clause-spelt c =
+pub row_bytes-requires-clause-spelt : goal.row_bytes-requires-clause-spelt
+row_bytes-requires-clause-spelt c =
     c.requires.spelt
 
-pub row_bytes-b-requires-clause-i_bound : goal.row_bytes-b-requires-clause-i_bound
-row_bytes-b-requires-clause-i_bound c =
+pub row_bytes-requires-clause-i_bound : goal.row_bytes-requires-clause-i_bound
+row_bytes-requires-clause-i_bound c =
     c.loop-i-test.true
 
-pub row_bytes-b-requires-clause-byte_counts : goal.row_bytes-b-requires-clause-byte_counts
-row_bytes-b-requires-clause-byte_counts c =
+pub row_bytes-requires-clause-byte_counts : goal.row_bytes-requires-clause-byte_counts
+row_bytes-requires-clause-byte_counts c =
     c.loop-i.invariant.3
 
-pub row_open-o-requires-clause-shown : goal.row_open-o-requires-clause-shown
-row_open-o-requires-clause-shown c =
+pub row_open-requires-clause-shown : goal.row_open-requires-clause-shown
+row_open-requires-clause-shown c =
     spelt-shown c.requires.spelt
 
-pub row_open-o-requires-clause-i_bound : goal.row_open-o-requires-clause-i_bound
-row_open-o-requires-clause-i_bound c =
+pub row_open-requires-clause-i_bound : goal.row_open-requires-clause-i_bound
+row_open-requires-clause-i_bound c =
     c.loop-i-test.true
 
-pub row_open-o-requires-clause-open_counts : goal.row_open-o-requires-clause-open_counts
-row_open-o-requires-clause-open_counts c =
+pub row_open-requires-clause-open_counts : goal.row_open-requires-clause-open_counts
+row_open-requires-clause-open_counts c =
     c.loop-i.invariant.4
 
 pub offset_bounds-bytes-i : goal.offset_bounds-bytes-i
@@ -52,10 +52,10 @@ bounds-brackets-i c =
 pub loop-i-preserved : goal.loop-i-preserved
 loop-i-preserved c = (
   omega (arith, c.loop-i-test.true),
-  length-set c.loop-i.bytes c.loop-i.i c.row_bytes-b.result ∙ c.loop-i.invariant.1,
-  length-set c.loop-i.brackets c.loop-i.i c.row_open-o.result ∙ c.loop-i.invariant.2,
-  bytes-more c.loop-i.invariant.3 c.loop-i-test.true c.row_bytes-b.ensures,
-  brackets-more c.loop-i.invariant.4 c.loop-i-test.true c.row_open-o.ensures,
+  length-set c.loop-i.bytes c.loop-i.i c.row_bytes.result ∙ c.loop-i.invariant.1,
+  length-set c.loop-i.brackets c.loop-i.i c.row_open.result ∙ c.loop-i.invariant.2,
+  bytes-more c.loop-i.invariant.3 c.loop-i-test.true c.row_bytes.ensures,
+  brackets-more c.loop-i.invariant.4 c.loop-i-test.true c.row_open.ensures,
 )
 
 pub returns-clause-byte_counts : goal.returns-clause-byte_counts

@@ -1,4 +1,4 @@
-use Prim.Native.Nat.{◌-◌, ◌≤◌}
+use Prim.Native.Nat.{◌≤◌}
 use mathlib.Core.Path.{◌≡◌}
 use lib.ListN.{length}
 use Rattle.diagram.specs.Words.{row_count}
@@ -10,6 +10,3 @@ abbrev pub invariant-loop-i : goal.invariant-loop-i
 invariant-loop-i l = (l.i ≤ row_count l.words) × (length l.bytes ≡ length l.initial.bytes) × (length l.brackets ≡ length l.initial.brackets)
     × ByteCounts l.arities (tables_at l.names l.constants l.predicates) l.words l.bytes l.i
     × OpenCounts l.words l.brackets l.i
-
-abbrev pub decreases-loop-i : goal.decreases-loop-i
-decreases-loop-i l = l.n - l.i

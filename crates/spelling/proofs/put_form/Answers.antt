@@ -14,4 +14,4 @@ returns-then-out-at-2 c =
 pub returns : goal.returns
 returns c =
     form-at c.args.arities.now c.args.names.now c.args.words.now c.args.constants c.args.predicates c.requires.words_value c.args.out.now c.args.at c.requires.n_value
-    c.if-out-at.false c.if-out-at-2.false c.put-end.ensures
+    c.if-out-at.false c.if-out-at-2.false c.put.ensures

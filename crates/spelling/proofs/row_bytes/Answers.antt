@@ -1,6 +1,6 @@
 use native.Mathlib.Omega.{arith}
 use Rattle.spelling.proofs.RowLaws.{spelt-arities, row_label}
-use Rattle.spelling.proofs.CountLaws.{leaf-line, leaf-bytes, test-line, test-few, high-there, low-there, high-few, low-few, bytes-over, bytes-sum}
+use Rattle.spelling.proofs.CountLaws.{leaf-line, leaf-bytes, test-line, test-few, high-there, low-there, high-few, low-few, bytes-sum}
 use Rattle.spelling.proofs.row_bytes.Goals as goal
 
 pub put_number-requires : goal.put_number-requires
@@ -56,10 +56,6 @@ overflow_add-sum-3 c =
     let q = c.requires in
     omega (arith, test-few q.spelt q.i_bound c.if-label.false c.put_test-n.ensures, high-few q.spelt q.i_bound c.if-label.false q.byte_counts, low-few q.spelt q.i_bound c.if-label.false q.byte_counts)
 
-pub returns-then-sum-gt-FORM_BYTES : goal.returns-then-sum-gt-FORM_BYTES
-returns-then-sum-gt-FORM_BYTES c =
-    bytes-over c.requires.spelt c.requires.i_bound c.if-label.false c.put_test-n.ensures c.requires.byte_counts c.if-sum-gt-FORM_BYTES.true
-
 pub returns : goal.returns
 returns c =
-    bytes-sum c.requires.spelt c.requires.i_bound c.if-label.false c.put_test-n.ensures c.requires.byte_counts c.if-sum-gt-FORM_BYTES.false
+    bytes-sum c.requires.spelt c.requires.i_bound c.if-label.false c.put_test-n.ensures c.requires.byte_counts c.min.ensures

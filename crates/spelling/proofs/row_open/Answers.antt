@@ -1,5 +1,5 @@
 use native.Mathlib.Omega.{arith}
-use Rattle.spelling.proofs.CountLaws.{open-leaf, open-high, open-low, open-over, open_more}
+use Rattle.spelling.proofs.CountLaws.{open-leaf, open-high, open-low, open_more}
 use Rattle.spelling.proofs.row_open.Goals as goal
 
 pub returns-then-words-i : goal.returns-then-words-i
@@ -21,10 +21,6 @@ offset_bounds-brackets-low c =
 pub bounds-brackets-low : goal.bounds-brackets-low
 bounds-brackets-low c =
     search open-low
-
-pub returns-then-most-ge-FORM_BRACKETS : goal.returns-then-most-ge-FORM_BRACKETS
-returns-then-most-ge-FORM_BRACKETS c =
-    search open-over
 
 pub returns : goal.returns
 returns c =

@@ -7,10 +7,10 @@ pub next_event-second-requires : goal.next_event-second-requires
 next_event-second-requires c =
     search (second-in Is)
 
-pub returns-in-Done : goal.returns-in-Done
-returns-in-Done c =
+pub returns-in-Ok : goal.returns-in-Ok
+returns-in-Ok c =
     search is-done
 
-pub returns-in-Refused : goal.returns-in-Refused
-returns-in-Refused c =
+pub returns-in-Err : goal.returns-in-Err
+returns-in-Err c =
     search is-refused

@@ -1,10 +1,10 @@
 use Rattle.state_lines.proofs.SaysLaws.{objects-done, objects-refused}
 use Rattle.state_lines.proofs.objects.Goals as goal
 
-pub returns-in-Done : goal.returns-in-Done
-returns-in-Done c =
+pub returns-in-Ok : goal.returns-in-Ok
+returns-in-Ok c =
     search objects-done
 
-pub returns-in-Refused : goal.returns-in-Refused
-returns-in-Refused c =
+pub returns-in-Err : goal.returns-in-Err
+returns-in-Err c =
     search objects-refused

@@ -12,11 +12,11 @@ pub read_tuple-objects-requires-clause-empty_row : goal.read_tuple-objects-requi
 read_tuple-objects-requires-clause-empty_row c =
     empty-row
 
-pub returns-in-Done : goal.returns-in-Done
-returns-in-Done c =
+pub returns-in-Ok : goal.returns-in-Ok
+returns-in-Ok c =
     true-done _ _ _ _ c.first_word.ensures c.next_event-next.ensures c.key_in-key.ensures c.read_tuple-objects.ensures c.tell.ensures
-    c.in-Done.is c.with_state.ensures
+    c.in-Ok.is c.with_state.ensures
 
-pub returns-in-Refused : goal.returns-in-Refused
-returns-in-Refused c =
+pub returns-in-Err : goal.returns-in-Err
+returns-in-Err c =
     search true-refused

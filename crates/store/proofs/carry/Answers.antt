@@ -23,8 +23,8 @@ pub bounds-numbers-words-2 : goal.bounds-numbers-words-2
 bounds-numbers-words-2 c =
     search carry-low
 
-pub renamed-label-requires : goal.renamed-label-requires
-renamed-label-requires c =
+pub renamed-requires : goal.renamed-requires
+renamed-requires c =
     search carry-movable
 
 pub returns : goal.returns

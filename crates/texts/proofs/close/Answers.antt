@@ -7,11 +7,11 @@ pub returns-then-not-is_unfinished : goal.returns-then-not-is_unfinished
 returns-then-not-is_unfinished c =
     λ w. close-none c.args.p c.args.out.now c.requires w c.is_unfinished.ensures (not_from_false _ c.if-not-is_unfinished.true)
 
-pub returns-in_default : goal.returns-in_default
-returns-in_default c =
-    λ w. close-full c.args.p c.args.out.now c.requires w c.is_unfinished.ensures (not_from_true _ c.if-not-is_unfinished.false) c.put_refusal.ensures c.in_default.is
+pub returns-in-None : goal.returns-in-None
+returns-in-None c =
+    λ w. close-full c.args.p c.args.out.now c.requires w c.is_unfinished.ensures (not_from_true _ c.if-not-is_unfinished.false) c.put_refusal.ensures c.in-None.is
 
-pub returns : goal.returns
-returns c =
+pub returns-in-Some : goal.returns-in-Some
+returns-in-Some c =
     λ w. close-some c.args.p c.args.out.now c.requires w c.is_unfinished.ensures (not_from_true _ c.if-not-is_unfinished.false) c.put_refusal.ensures _
-    c.in-At.is
+    c.in-Some.is

@@ -8,10 +8,10 @@ returns-in_default c =
 
 pub close-requires : goal.close-requires
 close-requires c =
-    let a = placed_at c.put_refusal.ensures _ c.in-At.is in
+    let a = placed_at c.put_refusal.ensures _ c.in-Some.is in
     omega (arith, a.within, a.long)
 
 pub returns : goal.returns
 returns c =
     λ w b t. rest-closed c.args.p c.args.out.now c.requires.end_in_bounds w c.put_refusal.ensures b t _
-    c.in-At.is c.close.ensures
+    c.in-Some.is c.close.ensures

@@ -1,10 +1,11 @@
-use Rattle.texts.proofs.MoveLaws.{met-before, met-now}
+use mathlib.Core.Path.{refl}
+use Rattle.texts.proofs.MoveLaws.{met-now}
 use Rattle.texts.proofs.met_behind.Goals as goal
 
 pub returns-then-met : goal.returns-then-met
 returns-then-met c =
-    met-before c.args.line.now c.if-met.true
+    rw c.if-met.true refl
 
-pub returns : goal.returns
-returns c =
+pub returns-else-met : goal.returns-else-met
+returns-else-met c =
     met-now c.args.line.now c.if-met.false

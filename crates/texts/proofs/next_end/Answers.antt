@@ -6,13 +6,13 @@ pub returns-then-r : goal.returns-then-r
 returns-then-r c =
     end-full c.args.block.now c.args.r c.args.free c.args.room c.if-r.true
 
-pub returns-then-room-p : goal.returns-then-room-p
-returns-then-room-p c =
-    end-few c.args.block.now c.args.r c.args.free c.args.room c.if-r.false c.requires c.if-room-p.true
+pub returns-then-room-r : goal.returns-then-room-r
+returns-then-room-r c =
+    end-few c.args.block.now c.args.r c.args.free c.args.room c.if-r.false c.requires c.if-room-r.true
 
 pub returns : goal.returns
 returns c =
-    end-there c.args.block.now c.args.r c.args.free c.args.room c.if-r.false c.requires c.if-room-p.false c.line_end.ensures
+    end-there c.args.block.now c.args.r c.args.free c.args.room c.if-r.false c.requires c.if-room-r.false c.line_end.ensures
 
 pub overflow_sub-room : goal.overflow_sub-room
 overflow_sub-room c =

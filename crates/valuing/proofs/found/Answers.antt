@@ -5,6 +5,6 @@ pub returns-then-indexed : goal.returns-then-indexed
 returns-then-indexed c =
     search found-indexed
 
-pub returns : goal.returns
-returns c =
+pub returns-else-indexed : goal.returns-else-indexed
+returns-else-indexed c =
     search found-scanned

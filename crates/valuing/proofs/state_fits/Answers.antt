@@ -5,10 +5,10 @@ pub returns-then-n-eq0 : goal.returns-then-n-eq0
 returns-then-n-eq0 c =
     search state-1
 
-pub returns-then-not-constants_fit : goal.returns-then-not-constants_fit
-returns-then-not-constants_fit c =
+pub returns-else-constants_fit : goal.returns-else-constants_fit
+returns-else-constants_fit c =
     search state-2
 
-pub returns : goal.returns
-returns c =
+pub returns-then-constants_fit : goal.returns-then-constants_fit
+returns-then-constants_fit c =
     search state-3

@@ -1,6 +1,6 @@
 use mathlib.Core.Path.{refl}
 use native.Mathlib.Omega.{arith}
-use Rattle.valuing.proofs.StartLaws.{top-leaf, top-low, top-high, top-true, top-false}
+use Rattle.valuing.proofs.StartLaws.{top-leaf, top-higher, top-true, top-false}
 use Rattle.valuing.proofs.top.Goals as goal
 
 pub returns-then-words-i : goal.returns-then-words-i
@@ -23,10 +23,6 @@ pub bounds-high-f : goal.bounds-high-f
 bounds-high-f c =
     search top-false
 
-pub returns-then-x-y : goal.returns-then-x-y
-returns-then-x-y c =
-    search top-low
-
 pub returns : goal.returns
 returns c =
-    search top-high
+    top-higher (λ x. x) _ _ _ c.if-words-i.false c.max.ensures

@@ -1,5 +1,4 @@
 use mathlib.Core.Path.{◌≡◌}
-use Prim.Native.Nat.{◌-◌}
 use lib.ListN.{length}
 use Rattle.valuing.specs.Rising.{turned}
 use Rattle.valuing.proofs.StartLaws.{Topped}
@@ -7,6 +6,3 @@ use Rattle.valuing.proofs.turn.Given as goal
 
 abbrev pub invariant-loop-i : goal.invariant-loop-i
 invariant-loop-i l = (length l.low ≡ length l.initial.low) × Topped (turned l.best) l.words l.low l.i
-
-abbrev pub decreases-loop-i : goal.decreases-loop-i
-decreases-loop-i l = l.rows - l.i

@@ -10,8 +10,8 @@ returns-then-not-few c =
 
 pub returns-then-facts : goal.returns-then-facts
 returns-then-facts c =
-    bound-few _ _ _ _ _ _ c.requires.few_value (not-false _ (not_from_true _ c.if-not-few.false)) c.number_many.ensures
+    bound-few _ _ _ _ _ _ c.requires.few_value (not-false _ (not_from_true _ c.if-not-few.false)) c.number_with.ensures
 
 pub returns : goal.returns
 returns c =
-    bound-few _ _ _ _ _ _ c.requires.few_value (not-false _ (not_from_true _ c.if-not-few.false)) c.number_few.ensures
+    bound-few _ _ _ _ _ _ c.requires.few_value (not-false _ (not_from_true _ c.if-not-few.false)) c.number_with-2.ensures

@@ -1,17 +1,14 @@
-use native.Mathlib.Omega.{arith}
-use borrow.Author.Rules.{rules}
+use Rattle.std.proofs.Common.{◌∙◌, rules}
+use Rattle.std.proofs.lemmas.Iterator.{YieldsList-from_slice}
+use Rattle.std.proofs.lemmas.Iterator.Consumers.{count_from_yields_List}
+use Rattle.std.proofs.lemmas.Iterator.Search.{YieldsList-from_take_while}
 use Rattle.words.specs.Bytes.{is_name_byte}
-use Rattle.words.specs.ByteLaws.{run_more, run-stop, run_end}
+use Rattle.words.proofs.RunCode.{length-taken}
 use Rattle.words.proofs.name_run.Goals as goal
-
-pub returns-then-not-name_byte : goal.returns-then-not-name_byte
-returns-then-not-name_byte c =
-    search (rules, run_more, run-stop, run_end)
-
-pub loop-i-preserved : goal.loop-i-preserved
-loop-i-preserved c =
-    search (rules, run_more, run-stop, run_end)
 
 pub returns : goal.returns
 returns c =
-    omega (arith, run_end is_name_byte c.args.s.now c.loop-i.i c.loop-i-test.false)
+    let s = c.args.s.now in
+    count_from_yields_List c.take_while.result _ c.count.ensures.ran
+    (YieldsList-from_take_while _ is_name_byte (YieldsList-from_slice s cc) c.take_while.ensures.closure c.take_while.ensures.done (λ x b q k. search rules))
+    ∙ length-taken is_name_byte s

@@ -7,20 +7,20 @@ use Rattle.words.specs.Bytes.{decimal_from, decimal, over, value_of}
 use Rattle.words.specs.ByteLaws.{run_at, digit-range, decimal-more}
 use Rattle.words.proofs.value.Goals as goal
 
-pub loop-i-init : goal.loop-i-init
+pub loop-b-init : goal.loop-b-init
 unfolding decimal_from decimal value_of
-loop-i-init c =
+loop-b-init c =
     omega arith
 
-pub overflow_sub-d : goal.overflow_sub-d
-overflow_sub-d c =
+pub overflow_sub-b : goal.overflow_sub-b
+overflow_sub-b c =
     search (rules, run_at, digit-range, decimal-more)
 
-pub loop-i-preserved : goal.loop-i-preserved
-loop-i-preserved c =
-    search (rules, run_at, digit-range, decimal-more)
+pub loop-b-preserved : goal.loop-b-preserved
+loop-b-preserved c =
+    omega (arith, decimal-more c.args.s.now c.loop-b.b-index c.loop-b-test.true)
 
 pub returns : goal.returns
 unfolding decimal_from decimal value_of
 returns c =
-    c.loop-i.invariant.1 ∙ ap (λ l. min over (decimal l)) (take_all c.loop-i.i c.args.s.now c.loop-i-test.false)
+    c.loop-b.invariant ∙ ap (λ l. min over (decimal l)) (take_all c.loop-b.b-index c.args.s.now c.loop-b-test.false)

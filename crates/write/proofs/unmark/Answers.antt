@@ -1,16 +1,20 @@
-use mathlib.Core.Path.{refl}
-use borrow.Author.Rules.{rules}
+use mathlib.Core.Path.{◌∙◌}
+use Prim.Native.Nat.{◌<◌}
+use native.Mathlib.Omega.{arith}
+use lib.ListN.{length-take}
+use lib.Seq.{get_or-take}
 use Rattle.write.proofs.NumberLaws.{unmark-start, unmark-on, unmark-end}
 use Rattle.write.proofs.unmark.Goals as goal
 
-pub loop-j-init : goal.loop-j-init
-loop-j-init c =
-    (refl, search unmark-start)
+pub loop-i-init : goal.loop-i-init
+loop-i-init c =
+    search unmark-start
 
-pub loop-j-preserved : goal.loop-j-preserved
-loop-j-preserved c =
-    (search rules, search unmark-on)
+pub loop-i-preserved : goal.loop-i-preserved
+loop-i-preserved c =
+    let h : c.loop-i.i-index < c.args.m = omega (arith, length-take c.args.m c.args.order.now) in
+    unmark-on c.loop-i.invariant h (c.wide.ensures ∙ get_or-take c.args.m c.args.order.now c.loop-i.i-index 0 h)
 
 pub returns : goal.returns
 returns c =
-    search unmark-end
+    unmark-end c.loop-i.invariant (omega (arith, length-take c.args.m c.args.order.now, c.requires.few, c.requires.order-places))

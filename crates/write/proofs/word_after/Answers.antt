@@ -5,6 +5,6 @@ pub returns-then-x-eq-LEAF : goal.returns-then-x-eq-LEAF
 returns-then-x-eq-LEAF c =
     search word-leaf
 
-pub returns : goal.returns
-returns c =
+pub returns-else-x-eq-LEAF : goal.returns-else-x-eq-LEAF
+returns-else-x-eq-LEAF c =
     search word-branch

@@ -9,14 +9,14 @@ pub returns-then-not-is_term : goal.returns-then-not-is_term
 returns-then-not-is_term c =
     search fits_not
 
-pub returns-then-not-ends_at : goal.returns-then-not-ends_at
-returns-then-not-ends_at c =
-    search fits-not-ended
-
 pub returns-then-p-ne0 : goal.returns-then-p-ne0
 returns-then-p-ne0 c =
     search fits-other
 
-pub returns : goal.returns
-returns c =
+pub returns-else-p-ne0 : goal.returns-else-p-ne0
+returns-else-p-ne0 c =
     search fits-equality
+
+pub returns-else-ends_at : goal.returns-else-ends_at
+returns-else-ends_at c =
+    search fits-not-ended
