@@ -97,8 +97,9 @@ fn answer_input(
     let mut open = true;
     while open {
         let f = refill(rt, t, block, rest);
+        let n = f.n;
         let r = texts::answer_whole(
-            &block[..f.n],
+            &block[..n],
             0,
             p,
             MOST_BYTES,
@@ -111,9 +112,10 @@ fn answer_input(
             work,
             out,
         );
-        t = pipes::write(rt.stdout(), f.tally, &out[..r.position.end]);
+        let end = r.position.end;
+        t = pipes::write(rt.stdout(), f.tally, &out[..end]);
         p = emptied(r.position);
-        rest = texts::keep_rest(block, r.at, f.n);
+        rest = texts::keep_rest(block, r.at, n);
         open = pipes::is_open(t);
     }
     finish(rt, t, rest.count, p, out)
