@@ -76,7 +76,7 @@ row-writable g n₁ n₂ h k = record {
 }
 
 module _ {s : List ℕ} {root : ℕ} {out : List ℕ} {x : Option ℕ} {marks' out' : List ℕ} (w : WritePost s root out x marks' out') where
-  row-many : x ≡ None → BuildAnswered (held (tree s root)) out (Err NoSpace) out'
+  pub row-many : x ≡ None → BuildAnswered (held (tree s root)) out (Err NoSpace) out'
   row-many e = go (cmp most_rows (length (rows (tree s root))))
     where
       few : length (rows (tree s root)) ≤ most_rows → ⊥
@@ -87,7 +87,7 @@ module _ {s : List ℕ} {root : ℕ} {out : List ℕ} {x : Option ℕ} {marks' o
       go (equal h) = absurd (few (omega arith))
       go (above h) = absurd (few (omega arith))
 
-  row-few : {m : ℕ} → x ≡ Some m → BuildAnswered (held (tree s root)) out (Ok m) out'
+  pub row-few : {m : ℕ} → x ≡ Some m → BuildAnswered (held (tree s root)) out (Ok m) out'
   row-few {m} e = go (cmp most_rows (length (rows (tree s root))))
     where
       done : length (rows (tree s root)) ≤ most_rows → BuildAnswered (held (tree s root)) out (Ok m) out'

@@ -75,12 +75,12 @@ module _ {t : List ℕ} {h : Head} {p : ℕ} (r : TruthRoom t h p) where
   unfolding model_of
   now-here ar l = now-is l t h p (h.actions - 1) (variants_of t (h.actions - 1) - 1) (omega (arith, r.some)) (omega (arith, r.has))
 
-  has-none : {i : ℕ} → TruthPlaced t h p i → get_or t (i + 1) 0 ≡ 0 → HasTruth t h p false
+  pub has-none : {i : ℕ} → TruthPlaced t h p i → get_or t (i + 1) 0 ≡ 0 → HasTruth t h p false
   has-none {i} e z = record {
     answer = λ ar l. sym (ap is_some (now-here ar l ∙ truth-none t (last_place t h) p l (λ k. ap (λ (x : ℕ). get_or t (x + 1) 0) (sym e.place) ∙ z)));
   }
 
-  has_one : {i : ℕ} → TruthPlaced t h p i → (get_or t (i + 1) 0 ≡ 0 → ⊥) → HasTruth t h p true
+  pub has_one : {i : ℕ} → TruthPlaced t h p i → (get_or t (i + 1) 0 ≡ 0 → ⊥) → HasTruth t h p true
   has_one {i} e z = record {
     answer = λ ar l.
         let n : get_or t (truth_place (last_place t h) p + 1) 0 ≡ 0 → ⊥ = λ y. z (ap (λ (x : ℕ). get_or t (x + 1) 0) e.place ∙ y) in

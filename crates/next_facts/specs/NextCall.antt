@@ -25,7 +25,7 @@ pub record Moving (ar listings table : List ℕ) (place n : ℕ) (constants fact
   pub objects : all_below n os ≡ true
   pub words : most_facts * fact_words ≤ length out
 
--- Many exactly if there are more facts than a state in hand may have
+-- None exactly if there are more facts than a state in hand may have
 abbrev pub facts_answer : List ℕ → Option ℕ
 facts_answer F = cond (ltb most_facts (fact_count F)) None (Some (fact_count F))
 

@@ -20,7 +20,7 @@ use state::FACT_WORDS;
 
 // What stands for a term that has no object.
 const FREE: u64 = 18446744073709551615;
-// Option<usize> of a state in hand, at most.
+// Facts of a state in hand, at most.
 pub const FACTS: usize = 1024;
 
 const ARGUMENTS: usize = Term::FIRST_VARIABLE as usize;

@@ -3,13 +3,12 @@ use mathlib.Core.Path.{◌≡◌, refl, sym, ap, subst, ◌∙◌}
 use mathlib.Core.Logic.{⊎_elim}
 use mathlib.Core.Bool.{Bool, true, false}
 use mathlib.Core.List.{List}
-use Prim.Native.Nat.{ℕ, zero, suc, ◌+◌, ◌-◌, ◌*◌, ◌/◌, ◌%◌, ◌<◌, ◌≤◌, zero-le, min}
+use Prim.Native.Nat.{ℕ, zero, suc, ◌+◌, ◌-◌, ◌*◌, ◌/◌, ◌%◌, ◌<◌, ◌≤◌, zero-le}
 use native.Mathlib.Omega.{arith}
 use lib.ListN.{length, get_or, set, length-set}
 use lib.Dec.{eqb}
 use borrow.Author.Tests.{eq-eqb, ne_eqb}
 use lib.Seq.{get_or-set_same, get_or-set_other}
-use Rattle.basics.specs.Tests.{Cmp, below, equal, above, cmp}
 use Rattle.label.specs.Inner.{Compared}
 use Rattle.label.proofs.OrderLaws.{compared-less, compared-not}
 use Rattle.label.specs.Limits.{leaf_mark}
@@ -140,14 +139,12 @@ module _ {ws heads : List ℕ} {limit count k label first second : ℕ} where
       (set (set (set (set (set ws (count * 5) k) (count * 5 + 1) link) (count * 5 + 2) label) (count * 5 + 3) first) (count * 5 + 4) second)
       (set heads b (count + 1))) (sym e) (add-to t f h d)
 
--- the lower of two labels
-pub lower-is : (a b : ℕ) → min a b ≡ lesser a b
-lower-is a b = go (cmp a b)
-  where
-    go : Cmp a b → min a b ≡ lesser a b
-    go (below h) = omega (arith, lesser-le a b (omega arith))
-    go (equal h) = omega (arith, lesser-le a b (omega arith))
-    go (above h) = omega (arith, lesser-gt a b h)
+-- the ways out of `lower`
+pub lower-second : {a b : ℕ} {r : Bool} → Compared b a r → r ≡ true → b ≡ lesser a b
+lower-second {a} {b} q e = sym (lesser-gt a b (compared-less b a q e))
+
+pub lower-first : {a b : ℕ} {r : Bool} → Compared b a r → r ≡ false → a ≡ lesser a b
+lower-first {a} {b} q e = sym (lesser-le a b (compared-not b a q e))
 
 -- the ways out of `ends` and `pair_label`
 module _ (op : Operation) (x y : List ℕ) (i j : ℕ) where
@@ -170,9 +167,9 @@ module _ (op : Operation) (x y : List ℕ) (i j : ℕ) where
   pub label-end : {b : Bool} → b ≡ is_end op x y (i, j) → b ≡ true → leaf_mark ≡ pair_label op x y (i, j)
   label-end e t = sym (end-label op x y (i, j) (sym e ∙ t))
 
-  pub label-lower : {b : Bool} {l : ℕ} → b ≡ is_end op x y (i, j) → b ≡ false → l ≡ min (get_or x (i * 3) 0) (get_or y (j * 3) 0) → l ≡ pair_label op x y (i, j)
+  pub label-lower : {b : Bool} {l : ℕ} → b ≡ is_end op x y (i, j) → b ≡ false → l ≡ lesser (get_or x (i * 3) 0) (get_or y (j * 3) 0) → l ≡ pair_label op x y (i, j)
   unfolding label_at
-  label-lower e t l = l ∙ lower-is _ _ ∙ sym (lower-label op x y (i, j) (sym e ∙ t))
+  label-lower e t l = l ∙ sym (lower-label op x y (i, j) (sym e ∙ t))
 
 -- the ways out of `successors`
 module _ (x y : List ℕ) (i j : ℕ) where

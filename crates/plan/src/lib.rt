@@ -6,7 +6,7 @@ ghost use Rattle.basics.specs.Members.{mem};
 ghost use Rattle.table.specs.Chains.{prev};
 ghost use Rattle.diagram.specs.Sizes.{space_rows};
 ghost use Rattle.apply.specs.Pairs.{absorbs};
-ghost use Rattle.plan.specs.Walk.{same_pair, is_end, pair_label, on_high, on_low, walked, Leading};
+ghost use Rattle.plan.specs.Walk.{same_pair, is_end, lesser, pair_label, on_high, on_low, walked, Leading};
 ghost use Rattle.plan.specs.Plan.{buckets, key_count, key_of, pair_of, hash_of, key_at, Index, Clean, Touched, Ready, Planned, pack_base, went_of, pairs_at, Visited, Entered};
 ghost use Rattle.std.specs.Prelude.{Some};
 
@@ -47,6 +47,17 @@ fn hash(k: u64) -> usize
     ensures { (result ≡ hash_of k) × (result < buckets) }
 {
     ((k * 2654435769 / 65536) as usize) % BUCKETS
+}
+
+// The lower of two labels.
+fn lower(first: u64, second: u64) -> u64
+    ensures { result ≡ lesser first second }
+{
+    if label::before(second, first) {
+        second
+    } else {
+        first
+    }
 }
 
 // One more than the number of the entry with the key, or 0.
@@ -99,7 +110,7 @@ fn pair_label(x: &[u64], y: &[u64], i: usize, j: usize, op: Operation) -> u64
     if ends(x, y, i, j, op) {
         LEAF
     } else {
-        x[i * 3].min(y[j * 3])
+        lower(x[i * 3], y[j * 3])
     }
 }
 

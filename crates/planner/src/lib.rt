@@ -34,14 +34,18 @@ fn regress_variant(
     requires { VariantTask arities.now listings.now table.now place value.now out.old work.old }
     ensures { Given arities.now (regressed arities.now (variant_at listings.now table.now place).truths (diagram_of value.now)) result out.new }
 {
-    regress::regress_checked(
+    let r = regress::regress_checked(
         arities,
         value,
         listings,
         &table[place + 2..place + model::VARIANT_WORDS],
         out,
         work,
-    )
+    );
+    let Ok(n) = r else {
+        return r;
+    };
+    Ok(n)
 }
 
 // The weight of the variant at a place of the table times leaf G, names shared.

@@ -210,7 +210,7 @@ module _ (s : List ℕ) {t : Option ℕ} (q : t ≡ numbered_as s) where
       go true z = let y : ◌≡◌ {A = ℕ} 0 1 = cc in absurd (omega arith)
       go false z = refl
 
-  order_other : t ≡ None → 0 ≡ number_of s
+  pub order_other : t ≡ None → 0 ≡ number_of s
   unfolding number_of
   order_other e = rw (order-not e)
 

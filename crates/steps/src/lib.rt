@@ -80,9 +80,12 @@ pub fn add_apart(
     ensures { Given arities.now (combined Sum Apart arities.now (diagram_of (take (n * 3) buffer.old)) (diagram_of y.now)) result buffer.new }
 {
     let mut sum = [0u64; diagram::RESULT_WORDS];
-    let m = sum_apart(arities, &buffer[..n * 3], y, &mut sum, work)?;
+    let r = sum_apart(arities, &buffer[..n * 3], y, &mut sum, work);
+    let Ok(m) = r else {
+        return r;
+    };
     write::copy(&sum, m, buffer);
-    Ok(m)
+    r
 }
 
 // Combines the listing that the first n rows of the buffer are with y, names shared; the result replaces it.
@@ -98,9 +101,12 @@ pub fn fold_shared(
     ensures { Given arities.now (combined op Shared arities.now (diagram_of (take (n * 3) buffer.old)) (diagram_of y.now)) result buffer.new }
 {
     let mut result = [0u64; diagram::RESULT_WORDS];
-    let m = shared(op, arities, &buffer[..n * 3], y, &mut result, work)?;
+    let r = shared(op, arities, &buffer[..n * 3], y, &mut result, work);
+    let Ok(m) = r else {
+        return r;
+    };
     write::copy(&result, m, buffer);
-    Ok(m)
+    r
 }
 
 // Writes leaf 0: one row.

@@ -15,7 +15,7 @@ use Rattle.label.specs.Limits.{first_variable, variable_count, minimum_count, pr
 use Rattle.label.proofs.ArityLaws.{arity-most, arity-words}
 use Rattle.diagram.specs.Diagram.{Diagram, leaf, branch, same}
 use Rattle.diagram.specs.Rows.{rows}
-use Rattle.diagram.specs.Words.{label_at, high_at, row_count, up_to}
+use Rattle.diagram.specs.Words.{label_at, high_at, row_count, up_to, is_listing}
 use Rattle.diagram.specs.WordLaws.{length-up_to, get_d_map, get_d-up_to}
 use Rattle.diagram.specs.Listing.{index, diagram_of}
 use Rattle.diagram.specs.ListingLaws.{index-less, get_d-index}
@@ -26,7 +26,7 @@ use Rattle.diagram.specs.Inner.{is_part}
 use Rattle.diagram.specs.RowLists.{row_tree}
 use Rattle.diagram.specs.RowLaws.{row-mem, mem-rows, part-self, part-high, part_low, part-leaf, part-branch, PartOf, it-is, of-high, of_low}
 use Rattle.listing.specs.Used.{Used}
-use Rattle.regression.specs.RegressCall.{truth_words, truths_of, are_listings, leaf_above, unbound_variable, check_truth, check_truths}
+use Rattle.regression.specs.RegressCall.{truth_count, truth_words, truths_of, are_listings, leaf_above, unbound_variable, check_truth, check_truths}
 use Rattle.regression.proofs.RegressCallLaws.{truths-none, truths-some, listings-none, listings-cons, listings-at, checks-none, checks-cons, above-leaf, above-branch}
 use Rattle.freeing.specs.FreeTasks.{any_set}
 use Rattle.freeing.specs.MarkLaws.{used-any}
@@ -57,6 +57,14 @@ low_parts m (branch l t f) h =
 
 pub low_rows : (m : ℕ) (d : Diagram) → ((v : ℕ) → mem same (leaf v) (rows d) ≡ true → v ≤ m) → leaf_above m d ≡ false
 low_rows m d h = low_parts m d (λ v k. h v (mem-rows d (leaf v) ∙ k))
+
+-- `is_listed`
+pub listed-none : (ar truths spans : List ℕ) (p : ℕ) {w : ℕ} → w ≡ get_or spans (p * 2 + 1) 0 → w ≡ 0 → true ≡ is_listed_at ar truths spans p
+listed-none ar truths spans p e z = rw (eq-eqb (truth_count spans p) 0 (sym e ∙ z))
+
+pub listed-some : (ar truths spans : List ℕ) (p : ℕ) {w : ℕ} {ws : List ℕ} {b : Bool} → w ≡ get_or spans (p * 2 + 1) 0 → (w ≡ 0 → ⊥) → ws ≡ truth_words truths spans p
+    → b ≡ is_listing ar ws → b ≡ is_listed_at ar truths spans p
+listed-some ar truths spans p {w} {ws} {b} e n q r = rw (ne_eqb (truth_count spans p) 0 (λ z. n (e ∙ z))) (r ∙ ap (is_listing ar) q)
 
 -- `are_listed`: those below p are listings
 pub record ListedTo (ar truths spans : List ℕ) (p : ℕ) : Type 0 where
