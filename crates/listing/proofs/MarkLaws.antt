@@ -1,4 +1,5 @@
 -- Laws of marking the terms that a listing uses, and of counting the marked variables.
+use mir.Val.{bool_byte}
 use mathlib.Core.Path.{◌≡◌, refl, sym, ap, ap₂, subst, ◌∙◌}
 use mathlib.Core.Bool.{Bool, true, false, not, ◌||◌, cond}
 use mathlib.Core.List.{List, [], ◌∷◌}
@@ -138,6 +139,62 @@ count_is ms t (suc n) h =
     go : (b : Bool) → ◌≡◌ {A = ℕ} (cond (not b) 1 0) (cond b 0 1)
     go true = refl
     go false = refl
+
+-- count_between: the same, mark by mark
+pub count_bit : (m : ℕ) {x : ℕ} → x ≡ bool_byte (not (eqb m 0)) → x ≡ cond (eqb m 0) 0 1
+count_bit m {x} q = q ∙ go (eqb m 0)
+  where
+    go : (c : Bool) → ◌≡◌ {A = ℕ} (bool_byte (not c)) (cond c 0 1)
+    go true = refl
+    go false = refl
+
+set-none : (ms : List ℕ) (t : ℕ) → set_from ms t 0 ≡ 0
+unfolding set_from
+set-none ms t = refl
+
+set_more : (ms : List ℕ) (t n : ℕ) → set_from ms t (suc n) ≡ cond (eqb (get_or ms t 0) 0) 0 1 + set_from ms (suc t) n
+unfolding set_from
+set_more ms t n = refl
+
+count_small : {x : ℕ} (m : ℕ) → x ≡ cond (eqb m 0) 0 1 → x ≤ 1
+count_small {x} m e = go (flag (eqb m 0))
+  where
+    go : Flag (eqb m 0) → x ≤ 1
+    go (is_true q) = let z : x ≡ 0 = e ∙ rw q in omega arith
+    go (is_false q) = let z : x ≡ 1 = e ∙ rw q in omega arith
+
+plus_none : (n x : ℕ) → x ≡ 0 → n ≡ n + x
+plus_none n x e = omega arith
+
+-- count_between: n of the marks from `first` on and before t are set
+pub record Counting (ms : List ℕ) (first end n t : ℕ) : Type 0 where
+  pub most : t ≤ end
+  pub last : end ≤ term_end
+  pub fewer : n + first ≤ t
+  pub sum : n + set_from ms t (end - t) ≡ set_from ms first (end - first)
+
+module _ {ms : List ℕ} {first end : ℕ} where
+  pub count-start : first ≤ end → end ≤ term_end → Counting ms first end 0 first
+  count-start h k = record { most = h; last = k; fewer = omega arith; sum = omega arith }
+
+  pub count_next : {n t x : ℕ} → Counting ms first end n t → t < end → x ≡ cond (eqb (get_or ms t 0) 0) 0 1 → Counting ms first end (n + x) (t + 1)
+  count_next {n} {t} {x} c h e = record { most = omega arith; last = c.last; fewer = omega (arith, c.fewer, count_small (get_or ms t 0) e); sum = all }
+    where
+      all : n + x + set_from ms (t + 1) (end - (t + 1)) ≡ set_from ms first (end - first)
+      all =
+          let p : end - t ≡ suc (end - (t + 1)) = omega arith in
+          let q : set_from ms t (end - t) ≡ x + set_from ms (suc t) (end - (t + 1)) = ap (set_from ms t) p ∙ set_more ms t (end - (t + 1)) ∙ rw e in
+          let r : set_from ms (t + 1) (end - (t + 1)) ≡ set_from ms (suc t) (end - (t + 1)) = rw add-one in
+          omega (arith, c.sum)
+
+  pub count_room : {n t x : ℕ} → Counting ms first end n t → x ≡ cond (eqb (get_or ms t 0) 0) 0 1 → n + x < 18446744073709551616
+  count_room {n} {t} {x} c e = omega (arith, c.most, c.last, c.fewer, count_small (get_or ms t 0) e)
+
+  pub count-end : {n t : ℕ} → Counting ms first end n t → end ≤ t → n ≡ set_from ms first (end - first)
+  count-end {n} {t} c h =
+      let p : end - t ≡ 0 = omega arith in
+      let q : set_from ms t (end - t) ≡ 0 = ap (set_from ms t) p ∙ set-none ms t in
+      plus_none n _ q ∙ c.sum
 
 pub counted-variables : (ms : List ℕ) {n : ℕ} → n ≡ set_from ms first_variable (first_minimum - first_variable) → n ≡ marked_variables ms
 unfolding marked_variables

@@ -186,7 +186,11 @@ fn count_between(marks: &[u64], first: usize, end: usize) -> usize
     requires end_le_term_end { end ≤ term_end }
     ensures { result ≡ set_from marks.now first (end - first) }
 {
-    marks[first..end].iter().filter(|mark| **mark != 0).count()
+    let mut n = 0;
+    for t in first..end {
+        n += usize::from(marks[t] != 0);
+    }
+    n
 }
 
 // How many variables are marked.
