@@ -1,4 +1,3 @@
-use mathlib.Core.Path.{subst}
 use Rattle.model.proofs.CheckLaws.{part-spans}
 use Rattle.planner.proofs.VariantLaws.{regress-able, regress-told}
 use Rattle.planner.proofs.regress_variant.Goals as goal
@@ -13,4 +12,5 @@ returns-in_default c =
 
 pub returns : goal.returns
 returns c =
-    regress-told c.requires (part-spans c.args.table.now c.args.place) c.regress_checked-r.ensures.value c.regress_checked-r.ensures.out_after
+    let p = regress-told c.requires (part-spans c.args.table.now c.args.place) c.regress_checked-r.ensures.value c.regress_checked-r.ensures.out_after in
+    rw (← c.in-Ok.is) p
