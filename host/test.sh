@@ -51,6 +51,13 @@ build() {
     $1 -Wall -Wextra -Wpedantic -Werror -I../include -o "target/c/$3" "$2" -x none "$library"
 }
 
+# What the library asks for from outside is memcpy and memset: who links it without a C library gives these two.
+library_asks() {
+    local asked
+    asked=$(nm -P "$library" | awk '$2 == "U" { asked[$1] } $2 ~ /^[A-TV-Z]$/ { given[$1] } END { for (name in asked) if (!(name in given)) print name }' | LC_ALL=C sort)
+    if [ "$asked" != $'memcpy\nmemset' ]; then echo "the library asks from outside for: $asked"; return 1; fi
+}
+
 c_value() {
     build "$1" ../examples/value.c value && prints 10 target/c/value
 }
@@ -199,6 +206,7 @@ if [ -f "$library" ]; then
     step quiet cargo test --quiet --release --offline -p yindolve
     step quiet cargo build --quiet --release --offline -p tests --features library
     step target/release/tests library seconds "$seconds"
+    if command -v nm >/dev/null; then step library_asks; else echo "no nm: what the library asks for from outside is left out"; fi
     for compiler in "${compilers[@]}"; do
         step c_value "$compiler"
         step c_session "$compiler"

@@ -60,6 +60,30 @@ same_end s h e = record { each = λ w l o. s.each w (omega arith) o }
 pub same_not : {A : Type 0} → false ≡ true → A
 same_not e = let z : ◌≡◌ {A = ℕ} 0 1 = cc in absurd (omega arith)
 
+-- ===== Copying =====
+pub copied-start : (theta store : List ℕ) (at : ℕ) → Copied theta store store at 0
+copied-start theta store at = record { length-kept = refl; words = λ i h. absurd (omega arith); before = λ i h. refl; behind = λ i h. refl }
+
+pub copied_more : {theta store store' : List ℕ} {at i : ℕ} → at + variable_count ≤ length store → i < variable_count → Copied theta store store' at i
+    → Copied theta store (set store' (at + i) (get_or theta (first_variable + i) 0)) at (i + 1)
+copied_more {theta} {store} {store'} {at} {i} r h s = record {
+  length-kept = length-set store' (at + i) (get_or theta (first_variable + i) 0) ∙ s.length-kept;
+  words = λ w l. go w l (cmp w i);
+  before = λ w l. get_or-set_other store' (at + i) w (get_or theta (first_variable + i) 0) 0 (λ (z : w ≡ at + i). omega arith) ∙ s.before w l;
+  behind = λ w l. get_or-set_other store' (at + i) w (get_or theta (first_variable + i) 0) 0 (λ (z : w ≡ at + i). omega arith) ∙ s.behind w l;
+}
+  where
+    go : (w : ℕ) → w < i + 1 → Cmp w i → get_or (set store' (at + i) (get_or theta (first_variable + i) 0)) (at + w) 0 ≡ get_or theta (first_variable + w) 0
+    go w l (below c) = get_or-set_other store' (at + i) (at + w) (get_or theta (first_variable + i) 0) 0 (λ (z : at + w ≡ at + i). omega arith) ∙ s.words w c
+    go w l (equal c) =
+        ap (λ (o : ℕ). get_or (set store' (at + i) (get_or theta (first_variable + i) 0)) (at + o) 0) c
+        ∙ get_or-set_same store' (at + i) (get_or theta (first_variable + i) 0) 0 (omega (arith, s.length-kept))
+        ∙ ap (λ (o : ℕ). get_or theta (first_variable + o) 0) (sym c)
+    go w l (above c) = absurd (omega arith)
+
+pub copied-end : {theta store store' : List ℕ} {at i : ℕ} → Copied theta store store' at i → variable_count ≤ i → Copied theta store store' at variable_count
+copied-end s h = record { length-kept = s.length-kept; words = λ w l. s.words w (omega arith); before = s.before; behind = s.behind }
+
 -- ===== A row is written =====
 module _ {theta store store' : List ℕ} {mask row : ℕ} (long : store_words ≤ length store) (low : row < store_rows)
     (c : Copied theta (set (set store (row_of row) 1) (row_of row + 1) mask) store' (row_of row + 2) variable_count) where

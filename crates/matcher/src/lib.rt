@@ -440,7 +440,9 @@ fn copy(theta: &[u64], store: &mut [u64], at: usize)
     requires variable_count_in_bounds { at + variable_count ≤ length store.old }
     ensures { Copied theta.now store.old store.new at variable_count }
 {
-    store[at..at + VARIABLES].copy_from_slice(&theta[FIRST_VARIABLE..FIRST_VARIABLE + VARIABLES]);
+    for i in 0..VARIABLES {
+        store[at + i] = theta[FIRST_VARIABLE + i];
+    }
 }
 
 // Writes a failure on the mask to a row.

@@ -126,7 +126,9 @@ pub fn copy(space: &[u64], count: usize, out: &mut [u64])
     ensures { out.new ≡ take (count * 3) space.now ++ drop (count * 3) out.old }
 {
     let n = count * 3;
-    out[..n].copy_from_slice(&space[..n]);
+    for i in 0..n {
+        out[i] = space[i];
+    }
 }
 
 // The first word of a row renamed: a label, or a leaf's mark.
