@@ -37,6 +37,17 @@ pub struct CodeFile {
     pub contracts: Vec<Contract>,
 }
 
+impl CodeFile {
+    /// Leaves out the types that a reader knows, but for those that the file makes or imports itself: such a name is another type's, and is followed.
+    fn drop_known(&mut self) {
+        let own: Vec<String> =
+            self.types.iter().map(|found| found.name.clone()).chain(self.uses.iter().map(|(_, name)| name.clone())).collect();
+        let kept = |name: &String| !KNOWN.contains(&name.as_str()) || own.contains(name);
+        self.types.iter_mut().for_each(|found| found.types.retain(kept));
+        self.contracts.iter_mut().for_each(|contract| contract.types.retain(kept));
+    }
+}
+
 fn words(text: &str) -> Vec<String> {
     let mut found = Vec::new();
     let mut word = String::new();
@@ -58,9 +69,9 @@ fn words(text: &str) -> Vec<String> {
 /// The types of the standard library that answers have: a reader knows them.
 const KNOWN: [&str; 2] = ["Option", "Result"];
 
-/// Names of types: not a number's, not lower-case words, and none that a reader knows.
+/// Names of types: not a number's, and not lower-case words.
 fn type_names(words: &[String]) -> Vec<String> {
-    words.iter().filter(|word| word.starts_with(|c: char| c.is_uppercase()) && !KNOWN.contains(&word.as_str())).cloned().collect()
+    words.iter().filter(|word| word.starts_with(|c: char| c.is_uppercase())).cloned().collect()
 }
 
 fn uncommented(line: &str) -> &str {
@@ -182,5 +193,6 @@ pub fn read_code(name: &str, text: &str) -> Result<CodeFile, String> {
         }
         i += 1;
     }
+    file.drop_known();
     Ok(file)
 }

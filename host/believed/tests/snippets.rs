@@ -254,6 +254,35 @@ fn types_of_code_and_contracts() {
 }
 
 #[test]
+fn types_that_a_reader_knows() {
+    let contract = "pub fn sized(n: usize) -> Result\n    ensures { result.now ≡ extra }\n{\n    n\n}\n";
+    let ghosts = "ghost use Rattle.lib.specs.Path.{◌≡◌};\nghost use Rattle.a.specs.Base.{extra};\n";
+    let plain = ["a.Base.extra", "Rattle.lib.specs.Path.◌≡◌", "lib.Nat.ℕ"];
+    // The library's, then the file's own, then another crate's, then one that is nowhere.
+    for (above, own) in [
+        ("", None),
+        ("pub enum Result {\n    Done,\n}\n", Some("c::Result")),
+        ("use d::Result;\n", Some("d::Result")),
+        ("use d::{Option, Result};\n", None),
+    ] {
+        let mut found = repository();
+        found.add("c", "lib.rt", &format!("{ghosts}{above}{contract}")).unwrap();
+        if own.is_some() {
+            found.add("d", "lib.rt", "pub enum Result {\n    Done,\n}\n").unwrap();
+        }
+        let reached = follow(&found, &[Root::Function("c".into(), Some("sized".into()))]);
+        let all = names(&reached);
+        if above.contains("Option") {
+            assert!(reached.faults.iter().any(|fault| fault.contains("Result")), "{above}: {:?}", reached.faults);
+        } else {
+            assert!(reached.faults.is_empty(), "{above}: {:?}", reached.faults);
+            assert!(plain.iter().chain(&own).all(|name| all.contains(&name.to_string())), "{above}: {all:?}");
+            assert_eq!(all.len(), plain.len() + own.iter().count(), "{above}: {all:?}");
+        }
+    }
+}
+
+#[test]
 fn definitions_in_files_of_laws() {
     let mut found = repository();
     found
