@@ -38,14 +38,28 @@ pub struct CodeFile {
 }
 
 impl CodeFile {
-    /// Leaves out the types that a reader knows, but for those that the file makes or imports itself: such a name is another type's, and is followed.
-    fn drop_known(&mut self) {
-        let own: Vec<String> =
-            self.types.iter().map(|found| found.name.clone()).chain(self.uses.iter().map(|(_, name)| name.clone())).collect();
+    /// Leaves out the types that a reader knows. Not so a name that the file makes or imports: it is another type's, and is followed; where it may be made or imported in a
+    /// way that is not read, it is looked for, and not found.
+    fn drop_known(&mut self, text: &str) {
+        let mut own: Vec<String> = self.types.iter().map(|found| found.name.clone()).collect();
+        own.extend(self.uses.iter().map(|(_, name)| name.clone()));
+        if text.lines().any(may_hide) {
+            return;
+        }
         let kept = |name: &String| !KNOWN.contains(&name.as_str()) || own.contains(name);
         self.types.iter_mut().for_each(|found| found.types.retain(kept));
         self.contracts.iter_mut().for_each(|contract| contract.types.retain(kept));
     }
+}
+
+/// Whether a line makes or imports a type that a reader knows, or may do so, in a form that `read_code` does not read.
+fn may_hide(line: &str) -> bool {
+    let line = uncommented(line);
+    let all = words(line);
+    let item = all.iter().any(|word| ["use", "type", "struct", "enum", "union", "trait"].contains(&word.as_str()));
+    let names = all.iter().any(|word| word == "*" || KNOWN.contains(&word.as_str()));
+    let glob = line.contains("::*") || line.contains("::{*");
+    item && names && (glob || !READ.iter().any(|head| line.starts_with(head))) && !line.starts_with("ghost use ")
 }
 
 fn words(text: &str) -> Vec<String> {
@@ -69,9 +83,17 @@ fn words(text: &str) -> Vec<String> {
 /// The types of the standard library that answers have: a reader knows them.
 const KNOWN: [&str; 2] = ["Option", "Result"];
 
-/// Names of types: not a number's, and not lower-case words.
+/// The heads of the items that are read.
+const READ: [&str; 5] = ["use ", "struct ", "enum ", "pub struct ", "pub enum "];
+
+/// Names of types: not a number's, and not lower-case words. A name behind a path is none that a reader knows.
 fn type_names(words: &[String]) -> Vec<String> {
-    words.iter().filter(|word| word.starts_with(|c: char| c.is_uppercase())).cloned().collect()
+    let mut found = Vec::new();
+    for (i, word) in words.iter().enumerate().filter(|(_, word)| word.starts_with(|c: char| c.is_uppercase())) {
+        let by_path = i > 1 && words[i - 1] == ":" && words[i - 2] == ":";
+        found.push(if by_path && KNOWN.contains(&word.as_str()) { format!("::{word}") } else { word.clone() });
+    }
+    found
 }
 
 fn uncommented(line: &str) -> &str {
@@ -184,7 +206,7 @@ pub fn read_code(name: &str, text: &str) -> Result<CodeFile, String> {
                 let names = words(names).into_iter().filter(|name| !["{", "}", ",", ";"].contains(&name.as_str()));
                 file.uses.extend(names.map(|name| (krate.to_string(), name)));
             }
-        } else if ["struct ", "enum ", "pub struct ", "pub enum "].iter().any(|head| line.starts_with(head)) {
+        } else if READ[1..].iter().any(|head| line.starts_with(head)) {
             let (found, end) = read_type(name, &all, i)?;
             file.types.push(found);
             i = end;
@@ -193,6 +215,6 @@ pub fn read_code(name: &str, text: &str) -> Result<CodeFile, String> {
         }
         i += 1;
     }
-    file.drop_known();
+    file.drop_known(text);
     Ok(file)
 }

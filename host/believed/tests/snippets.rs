@@ -253,32 +253,49 @@ fn types_of_code_and_contracts() {
     assert!(!reached.faults.is_empty());
 }
 
+/// What a function over the type Result reaches in a crate c whose file has these lines above it, beside a crate d with a type of that name.
+fn reach_result(above: &str, answer: &str) -> (Vec<String>, Vec<String>) {
+    let mut found = repository();
+    let ghosts = "ghost use Rattle.lib.specs.Path.{◌≡◌};\nghost use Rattle.a.specs.Base.{extra};\n";
+    let contract = format!("pub fn sized(n: usize) -> {answer}\n    ensures {{ result.now ≡ extra }}\n{{\n    n\n}}\n");
+    found.add("c", "lib.rt", &format!("{ghosts}{above}{contract}")).unwrap();
+    found.add("d", "lib.rt", "pub enum Result {\n    Done,\n}\n").unwrap();
+    let reached = follow(&found, &[Root::Function("c".into(), Some("sized".into()))]);
+    (names(&reached), reached.faults.into_iter().collect())
+}
+
 #[test]
 fn types_that_a_reader_knows() {
-    let contract = "pub fn sized(n: usize) -> Result\n    ensures { result.now ≡ extra }\n{\n    n\n}\n";
-    let ghosts = "ghost use Rattle.lib.specs.Path.{◌≡◌};\nghost use Rattle.a.specs.Base.{extra};\n";
+    // The library's, then the file's own, then another crate's.
     let plain = ["a.Base.extra", "Rattle.lib.specs.Path.◌≡◌", "lib.Nat.ℕ"];
-    // The library's, then the file's own, then another crate's, then one that is nowhere.
     for (above, own) in [
         ("", None),
         ("pub enum Result {\n    Done,\n}\n", Some("c::Result")),
+        ("enum Result {\n    Done,\n}\n", Some("c::Result")),
         ("use d::Result;\n", Some("d::Result")),
-        ("use d::{Option, Result};\n", None),
+        ("use d::{\n    Result,\n};\n", Some("d::Result")),
     ] {
-        let mut found = repository();
-        found.add("c", "lib.rt", &format!("{ghosts}{above}{contract}")).unwrap();
-        if own.is_some() {
-            found.add("d", "lib.rt", "pub enum Result {\n    Done,\n}\n").unwrap();
-        }
-        let reached = follow(&found, &[Root::Function("c".into(), Some("sized".into()))]);
-        let all = names(&reached);
-        if above.contains("Option") {
-            assert!(reached.faults.iter().any(|fault| fault.contains("Result")), "{above}: {:?}", reached.faults);
-        } else {
-            assert!(reached.faults.is_empty(), "{above}: {:?}", reached.faults);
-            assert!(plain.iter().chain(&own).all(|name| all.contains(&name.to_string())), "{above}: {all:?}");
-            assert_eq!(all.len(), plain.len() + own.iter().count(), "{above}: {all:?}");
-        }
+        let (all, faults) = reach_result(above, "Result");
+        assert!(faults.is_empty(), "{above}: {faults:?}");
+        assert!(plain.iter().chain(&own).all(|name| all.contains(&name.to_string())), "{above}: {all:?}");
+        assert_eq!(all.len(), plain.len() + own.iter().count(), "{above}: {all:?}");
+    }
+    // A name that may be another type's, made or imported as nothing here reads it, is not found.
+    for above in [
+        "use d::*;\n",
+        "use d::{*};\n",
+        "pub use d::Result;\n",
+        "type Result = u64;\n",
+        "pub(crate) enum Result {\n    Done,\n}\n",
+        "mod inner {\n    pub enum Result {\n        Done,\n    }\n}\n",
+        "use nowhere::Result;\n",
+    ] {
+        let (_, faults) = reach_result(above, "Result");
+        assert!(faults.iter().any(|fault| fault.contains("Result")), "{above}: {faults:?}");
+    }
+    for answer in ["d::Result", "io::Result<usize>"] {
+        let (_, faults) = reach_result("", answer);
+        assert!(faults.iter().any(|fault| fault.contains("::Result")), "{answer}: {faults:?}");
     }
 }
 
