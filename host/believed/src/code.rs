@@ -41,25 +41,30 @@ impl CodeFile {
     /// Leaves out the types that a reader knows. Not so a name that the file makes or imports: it is another type's, and is followed; where it may be made or imported in a
     /// way that is not read, it is looked for, and not found.
     fn drop_known(&mut self, text: &str) {
-        let mut own: Vec<String> = self.types.iter().map(|found| found.name.clone()).collect();
-        own.extend(self.uses.iter().map(|(_, name)| name.clone()));
-        if text.lines().any(may_hide) {
-            return;
+        let all = words(&text.lines().map(code_of).collect::<Vec<_>>().join("\n"));
+        for known in KNOWN {
+            let read =
+                self.types.iter().filter(|found| found.name == known).count() + self.uses.iter().filter(|(_, name)| name == known).count();
+            if read == 0 && !text.contains("/*") && !text.contains("r#") && !may_name(&all, known) {
+                self.types.iter_mut().for_each(|found| found.types.retain(|name| name != known));
+                self.contracts.iter_mut().for_each(|contract| contract.types.retain(|name| name != known));
+            }
         }
-        let kept = |name: &String| !KNOWN.contains(&name.as_str()) || own.contains(name);
-        self.types.iter_mut().for_each(|found| found.types.retain(kept));
-        self.contracts.iter_mut().for_each(|contract| contract.types.retain(kept));
     }
 }
 
-/// Whether a line makes or imports a type that a reader knows, or may do so, in a form that `read_code` does not read.
-fn may_hide(line: &str) -> bool {
-    let line = uncommented(line);
-    let all = words(line);
-    let item = all.iter().any(|word| ["use", "type", "struct", "enum", "union", "trait"].contains(&word.as_str()));
-    let names = all.iter().any(|word| word == "*" || KNOWN.contains(&word.as_str()));
-    let glob = line.contains("::*") || line.contains("::{*");
-    item && names && (glob || !READ.iter().any(|head| line.starts_with(head))) && !line.starts_with("ghost use ")
+/// A line without the comment at its end; a line with a string is left whole.
+fn code_of(line: &str) -> &str {
+    line.split("//").next().filter(|code| !code.contains('"')).unwrap_or(line)
+}
+
+/// Whether an item of the file, but a `ghost use`, makes or imports the name, or has a glob that may: as its own name, or as a type parameter.
+fn may_name(all: &[String], name: &str) -> bool {
+    let items = ["use", "type", "struct", "enum", "union", "trait", "mod", "fn"];
+    (0..all.len()).filter(|&i| items.contains(&all[i].as_str()) && (i == 0 || all[i - 1] != "ghost")).any(|i| {
+        let ends: &[&str] = if all[i] == "use" { &[";"] } else { &["(", "{", ";", "="] };
+        all[i..].iter().take_while(|word| !ends.contains(&word.as_str())).any(|word| word == name || (all[i] == "use" && word == "*"))
+    })
 }
 
 fn words(text: &str) -> Vec<String> {
@@ -82,9 +87,6 @@ fn words(text: &str) -> Vec<String> {
 
 /// The types of the standard library that answers have: a reader knows them.
 const KNOWN: [&str; 2] = ["Option", "Result"];
-
-/// The heads of the items that are read.
-const READ: [&str; 5] = ["use ", "struct ", "enum ", "pub struct ", "pub enum "];
 
 /// Names of types: not a number's, and not lower-case words. A name behind a path is none that a reader knows.
 fn type_names(words: &[String]) -> Vec<String> {
@@ -206,7 +208,7 @@ pub fn read_code(name: &str, text: &str) -> Result<CodeFile, String> {
                 let names = words(names).into_iter().filter(|name| !["{", "}", ",", ";"].contains(&name.as_str()));
                 file.uses.extend(names.map(|name| (krate.to_string(), name)));
             }
-        } else if READ[1..].iter().any(|head| line.starts_with(head)) {
+        } else if ["struct ", "enum ", "pub struct ", "pub enum "].iter().any(|head| line.starts_with(head)) {
             let (found, end) = read_type(name, &all, i)?;
             file.types.push(found);
             i = end;

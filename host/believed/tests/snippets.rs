@@ -289,6 +289,17 @@ fn types_that_a_reader_knows() {
         "pub(crate) enum Result {\n    Done,\n}\n",
         "mod inner {\n    pub enum Result {\n        Done,\n    }\n}\n",
         "use nowhere::Result;\n",
+        "pub use d::{\n    Other,\n    Result,\n};\n",
+        "pub(crate) use d::{\n    Other as Result,\n};\n",
+        "mod inner {\n    use d::{\n        Result,\n    };\n}\n",
+        "use d::{Other, *};\n",
+        "use d::{\n    inner::*,\n    Other,\n};\n",
+        "use\n    d::Result;\n",
+        "type\n    Result = u64;\n",
+        "#[doc = \"http://x\"] pub use d::Result;\n",
+        "/* // */ pub use d::Result;\n",
+        "pub enum r#Result {\n    Done,\n}\n",
+        "pub fn other<Result>(n: Result) {}\n",
     ] {
         let (_, faults) = reach_result(above, "Result");
         assert!(faults.iter().any(|fault| fault.contains("Result")), "{above}: {faults:?}");
