@@ -38,14 +38,13 @@ pub struct CodeFile {
 }
 
 impl CodeFile {
-    /// Leaves out the types that a reader knows. Not so a name that the file makes or imports: it is another type's, and is followed; where it may be made or imported in a
-    /// way that is not read, it is looked for, and not found.
+    /// Leaves out the types that a reader knows, where the file can have no other by such a name. Else the name is looked for as any other, and followed or not found.
     fn drop_known(&mut self, text: &str) {
         let all = words(&text.lines().map(code_of).collect::<Vec<_>>().join("\n"));
+        // Comments and strings over several lines are not told from code.
+        let plain = !text.contains("/*") && text.lines().all(|line| line.matches('"').count() % 2 == 0);
         for known in KNOWN {
-            let read =
-                self.types.iter().filter(|found| found.name == known).count() + self.uses.iter().filter(|(_, name)| name == known).count();
-            if read == 0 && !text.contains("/*") && !text.contains("r#") && !may_name(&all, known) {
+            if plain && is_of_library(&all, known) {
                 self.types.iter_mut().for_each(|found| found.types.retain(|name| name != known));
                 self.contracts.iter_mut().for_each(|contract| contract.types.retain(|name| name != known));
             }
@@ -58,13 +57,17 @@ fn code_of(line: &str) -> &str {
     line.split("//").next().filter(|code| !code.contains('"')).unwrap_or(line)
 }
 
-/// Whether an item of the file, but a `ghost use`, makes or imports the name, or has a glob that may: as its own name, or as a type parameter.
-fn may_name(all: &[String], name: &str) -> bool {
-    let items = ["use", "type", "struct", "enum", "union", "trait", "mod", "fn"];
-    (0..all.len()).filter(|&i| items.contains(&all[i].as_str()) && (i == 0 || all[i - 1] != "ghost")).any(|i| {
-        let ends: &[&str] = if all[i] == "use" { &[";"] } else { &["(", "{", ";", "="] };
-        all[i..].iter().take_while(|word| !ends.contains(&word.as_str())).any(|word| word == name || (all[i] == "use" && word == "*"))
-    })
+/// Whether a type of the library, with its parameters, is all that the name can be in a file of these words: what makes or imports a type has its name alone, behind a path,
+/// or behind a word that says so, or is a glob.
+fn is_of_library(all: &[String], known: &str) -> bool {
+    let makes = ["enum", "struct", "type", "union", "trait", "fn", "mod", "as", ":", "#", "/"];
+    let before = |i: usize, k: usize| i.checked_sub(k).map_or("", |j| all[j].as_str());
+    let glob = all.windows(2).any(|pair| pair[0] == "*" && [",", ";", "}", "/"].contains(&pair[1].as_str()));
+    !glob
+        && (0..all.len()).filter(|&i| all[i] == known).all(|i| {
+            let typed = before(i, 1) == ":" && before(i, 2) != ":";
+            all.get(i + 1).is_some_and(|next| next == "<") && (typed || !makes.contains(&before(i, 1)))
+        })
 }
 
 fn words(text: &str) -> Vec<String> {
@@ -88,14 +91,9 @@ fn words(text: &str) -> Vec<String> {
 /// The types of the standard library that answers have: a reader knows them.
 const KNOWN: [&str; 2] = ["Option", "Result"];
 
-/// Names of types: not a number's, and not lower-case words. A name behind a path is none that a reader knows.
+/// Names of types: not a number's, and not lower-case words.
 fn type_names(words: &[String]) -> Vec<String> {
-    let mut found = Vec::new();
-    for (i, word) in words.iter().enumerate().filter(|(_, word)| word.starts_with(|c: char| c.is_uppercase())) {
-        let by_path = i > 1 && words[i - 1] == ":" && words[i - 2] == ":";
-        found.push(if by_path && KNOWN.contains(&word.as_str()) { format!("::{word}") } else { word.clone() });
-    }
-    found
+    words.iter().filter(|word| word.starts_with(|c: char| c.is_uppercase())).cloned().collect()
 }
 
 fn uncommented(line: &str) -> &str {

@@ -253,8 +253,8 @@ fn types_of_code_and_contracts() {
     assert!(!reached.faults.is_empty());
 }
 
-/// What a function over the type Result reaches in a crate c whose file has these lines above it, beside a crate d with a type of that name.
-fn reach_result(above: &str, answer: &str) -> (Vec<String>, Vec<String>) {
+/// What a function with this answer reaches in a crate c whose file has these lines above it, beside a crate d with a type Result, and what is wrong there.
+fn reach_answer(above: &str, answer: &str) -> (Vec<String>, Vec<String>) {
     let mut found = repository();
     let ghosts = "ghost use Rattle.lib.specs.Path.{◌≡◌};\nghost use Rattle.a.specs.Base.{extra};\n";
     let contract = format!("pub fn sized(n: usize) -> {answer}\n    ensures {{ result.now ≡ extra }}\n{{\n    n\n}}\n");
@@ -268,46 +268,53 @@ fn reach_result(above: &str, answer: &str) -> (Vec<String>, Vec<String>) {
 fn types_that_a_reader_knows() {
     // The library's, then the file's own, then another crate's.
     let plain = ["a.Base.extra", "Rattle.lib.specs.Path.◌≡◌", "lib.Nat.ℕ"];
-    for (above, own) in [
-        ("", None),
-        ("pub enum Result {\n    Done,\n}\n", Some("c::Result")),
-        ("enum Result {\n    Done,\n}\n", Some("c::Result")),
-        ("use d::Result;\n", Some("d::Result")),
-        ("use d::{\n    Result,\n};\n", Some("d::Result")),
+    for (above, answer, own) in [
+        ("", "Result<usize, usize>", None),
+        ("pub fn other(m: Option<usize>) -> usize {\n    2 * 3\n}\n", "Option<Result<(usize, usize), usize>>", None),
+        ("pub enum Result {\n    Done,\n}\n", "Result", Some("c::Result")),
+        ("enum Result {\n    Done,\n}\n", "Result", Some("c::Result")),
+        ("pub struct Result<'a> {\n    words: &'a [u64],\n}\n", "Result<'a>", Some("c::Result")),
+        ("use d::Result;\n", "Result", Some("d::Result")),
+        ("use d::{\n    Result,\n};\n", "Result<usize>", Some("d::Result")),
     ] {
-        let (all, faults) = reach_result(above, "Result");
-        assert!(faults.is_empty(), "{above}: {faults:?}");
-        assert!(plain.iter().chain(&own).all(|name| all.contains(&name.to_string())), "{above}: {all:?}");
-        assert_eq!(all.len(), plain.len() + own.iter().count(), "{above}: {all:?}");
+        let (all, faults) = reach_answer(above, answer);
+        assert!(faults.is_empty(), "{above}{answer}: {faults:?}");
+        assert!(plain.iter().chain(&own).all(|name| all.contains(&name.to_string())), "{above}{answer}: {all:?}");
+        assert_eq!(all.len(), plain.len() + own.iter().count(), "{above}{answer}: {all:?}");
     }
     // A name that may be another type's, made or imported as nothing here reads it, is not found.
     for above in [
         "use d::*;\n",
         "use d::{*};\n",
-        "pub use d::Result;\n",
-        "type Result = u64;\n",
-        "pub(crate) enum Result {\n    Done,\n}\n",
-        "mod inner {\n    pub enum Result {\n        Done,\n    }\n}\n",
-        "use nowhere::Result;\n",
-        "pub use d::{\n    Other,\n    Result,\n};\n",
-        "pub(crate) use d::{\n    Other as Result,\n};\n",
-        "mod inner {\n    use d::{\n        Result,\n    };\n}\n",
         "use d::{Other, *};\n",
         "use d::{\n    inner::*,\n    Other,\n};\n",
+        "pub use d::Result;\n",
+        "pub use d::{\n    Other,\n    Result,\n};\n",
+        "pub(crate) use d::{\n    Other as Result,\n};\n",
+        "use nowhere::Result;\n",
         "use\n    d::Result;\n",
-        "type\n    Result = u64;\n",
+        "mod inner {\n    use d::{\n        Result,\n    };\n}\n",
+        "type Result = u64;\n",
+        "type\n    Result<T> = u64;\n",
+        "pub(crate) enum Result<T> {\n    Done(T),\n}\n",
+        "mod inner {\n    pub enum Result {\n        Done,\n    }\n}\n",
+        "pub enum r#Result<T> {\n    Done(T),\n}\n",
+        "pub(crate) enum /* one */ Result<T> {\n    Done(T),\n}\n",
         "#[doc = \"http://x\"] pub use d::Result;\n",
         "/* // */ pub use d::Result;\n",
-        "pub enum r#Result {\n    Done,\n}\n",
-        "pub fn other<Result>(n: Result) {}\n",
+        "pub extern \"C\" fn f() {} // ghost\nuse d::*;\n",
+        "impl<Result> Held<Result> {\n",
+        "#[doc = \"\n// \"] pub use d::Result;\n",
     ] {
-        let (_, faults) = reach_result(above, "Result");
+        let (_, faults) = reach_answer(above, "Result<usize>");
         assert!(faults.iter().any(|fault| fault.contains("Result")), "{above}: {faults:?}");
     }
-    for answer in ["d::Result", "io::Result<usize>"] {
-        let (_, faults) = reach_result("", answer);
-        assert!(faults.iter().any(|fault| fault.contains("::Result")), "{answer}: {faults:?}");
+    for answer in ["Result", "d::Result", "d::Result<usize>", "io::Result<usize>", "d::r#Result<usize>", "d:: /* x */ Result<usize>"] {
+        let (_, faults) = reach_answer("", answer);
+        assert!(faults.iter().any(|fault| fault.contains("Result")), "{answer}: {faults:?}");
     }
+    let (_, faults) = reach_answer("pub enum Held {\n    Done(d\n        ::Result<u64>),\n}\n", "Held");
+    assert!(faults.iter().any(|fault| fault.contains("Result")), "{faults:?}");
 }
 
 #[test]
